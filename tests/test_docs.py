@@ -314,15 +314,15 @@ class Docs(unittest.TestCase):
 
     def test_numbers_of_definitions_are_those_that_are_counted(self):
         """Those of the headline, and of each clause beside it, in docs/trust.md."""
-        page, headline = read("docs/trust.md"), ["quic_pair.specs.Headline:Headline", "quic_pair.specs.History:past_of"]
+        page, headline = read("docs/trust.md"), ["quic_exchange.specs.Headline:Headline", "quic_exchange.specs.History:past_of"]
         said = re.search(r"(\d+) definitions\s+on (\d+) lines of (\d+) files, and (\d+) types", page).groups()
         self.assertEqual(counted(*headline), said)
         self.assertIn(f" {said[0]} definitions on {said[1]} lines", " ".join(read("README.md").split()))
-        for name in ("quic_pair.specs.Steps:Next", "quic_history.specs.History:From"):
+        for name in ("quic_exchange.specs.Steps:Next", "quic_history.specs.History:From"):
             numbers = counted(name)
             text = f"{numbers[0]} definitions on {int(numbers[1]):,} lines"
             self.assertIn(text, " ".join(page.split()))
-        rows = re.findall(r"^ *\| `\w+` \| `(quic_pair[\w.:]+)` \| (\d+) \| (\d+) \|$", page, flags=re.M)
+        rows = re.findall(r"^ *\| `\w+` \| `(quic_exchange[\w.:]+)` \| (\d+) \| (\d+) \|$", page, flags=re.M)
         self.assertGreaterEqual(len(rows), 7)
         for name, *numbers in rows:
             self.assertEqual(counted(*headline, name)[:2], tuple(numbers), name)
@@ -344,8 +344,8 @@ WRONG = [
     ("docs/rules.md", "`Headline a b` of `quic_wire`"),
     ("docs/rules.md", "`quic_wire::encode_nowhere`"),
     ("docs/rules.md", "`Pair::nowhere`"),
-    ("docs/rules.md", "Defined in `quic_pair/specs/Steps.antt` (`TakesTurns`)."),
-    ("docs/words.md", "## The pair (`quic_pair`)\n| `TakesTurns` | `Steps` | nothing |"),
+    ("docs/rules.md", "Defined in `quic_exchange/specs/Steps.antt` (`TakesTurns`)."),
+    ("docs/words.md", "## The pair (`quic_exchange`)\n| `TakesTurns` | `Steps` | nothing |"),
     ("docs/proved.md", "### quic_pair\n| a promise | `hex_field` |"),
     ("docs/rfc.md", "| 4.1 | credit | `Pair` | `nowhere` (`quic_pair`) | `every_kind_of_step_is_answered` |"),
     ("docs/rfc.md", "| 4.1 | credit | `Pair` | `headline` (`quic_pair`) | `nowhere` |"),

@@ -15,7 +15,7 @@ PARTS = [
     ("receive side", "#56b4e9", ("quic_assembler", "quic_ordered", "quic_receiving")),
     ("send side", "#e69f00", ("quic_sending", "quic_queue", "quic_outgoing", "quic_writing", "quic_flows", "quic_retransmits")),
     ("one end", "#009e73", ("quic_history", "quic_streams", "quic_endpoint", "quic_session")),
-    ("two ends", "#cc79a7", ("quic_link", "quic_pair", "quic_steps")),
+    ("two ends", "#cc79a7", ("quic_link", "quic_exchange", "quic_pair", "quic_steps")),
 ]
 OTHERS, PROGRAMS = ("values, frames, and other parts", "#bbbbbb"), ("programs and libraries for others", "#f0e442")
 

@@ -40,13 +40,13 @@ ALLOWED = {
     ("crates/connection_loop/src/connection.rt", ".or(Err(OutOfMemory))?,"),
     ("crates/hostile/src/application.rt", "answer.or(Err(OutOfMemory))"),
     ("crates/streamsim/src/simulation.rt", "answer.or(Err(OutOfMemory))"),
-    ("crates/quic_pair/src/replies.rt", "Err(_back) => Err(PairError::OutOfMemory),"),
+    ("crates/quic_exchange/src/replies.rt", "Err(_back) => Err(PairError::OutOfMemory),"),
     # A payload that an end wrote itself is decoded: its contract says that it can be.
     ("crates/hostile/src/application.rt", "Err(DecodeError::OutOfMemory) | Err(DecodeError::Malformed) => return Err(OutOfMemory),"),
     # The reply of a step said that memory ran out: no other reply ends a settling so.
     ("crates/quic_pair/src/settle.rt", "None => Err(OutOfMemory),"),
     # Both answers fail only out of memory, and this arm is for all cases except two successes, so one of them is an error.
-    ("crates/quic_pair/src/replies.rt", "_ => Err(PairError::OutOfMemory),"),
+    ("crates/quic_exchange/src/replies.rt", "_ => Err(PairError::OutOfMemory),"),
 }
 
 OPEN, CLOSE = "([{", ")]}"

@@ -1,7 +1,7 @@
 #!/usr/bin/env python3
 """What a reader of a definition has to read: the definitions that it names, those that these name, and so on.
 
-    tools/reading_list.py quic_pair.specs.Headline:Headline ..
+    tools/reading_list.py quic_exchange.specs.Headline:Headline ..
 
 MODULE:NAME is a definition; MODULE alone stands for all definitions of a file. Prints the definitions under their file, with
 the number of their lines (without comments and blank lines), then the types of the code that they name, and the sums. With

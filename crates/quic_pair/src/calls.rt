@@ -3,13 +3,13 @@
 ghost use Rattle.std.specs.Prelude.{◌≡◌, IfOk};
 ghost use Rattle.quic_sending.specs.Source.{slice_lists};
 ghost use Rattle.quic_endpoint.specs.Shown.{endpoint_view};
-ghost use Rattle.quic_pair.specs.Calls.{Opens, Accepts, OnGiven, Writes, WritesChunksOrNone, Finishes, ResetsOn, StopsOn, SetsPriorityOn, AsksReset, ReadsOn, SetsSendWindow, SetsReceiveWindow, SetsMaxConcurrent, Polls};
+ghost use Rattle.quic_exchange.specs.Calls.{Opens, Accepts, OnGiven, Writes, WritesChunksOrNone, Finishes, ResetsOn, StopsOn, SetsPriorityOn, AsksReset, ReadsOn, SetsSendWindow, SetsReceiveWindow, SetsMaxConcurrent, Polls};
 
-use crate::replies::{
+use quic_endpoint::Endpoint;
+use quic_exchange::replies::{
     accepted_reply, chunks_reply, code_reply, done_reply, event_reply, finished_reply,
     handled_reply, opened_reply, read_reply, unwritten_reply,
 };
-use quic_endpoint::Endpoint;
 use quic_steps::{PairError, Reply};
 use quic_values::{Bytes, ChunkList, Dir, OutOfMemory, StreamId, VarInt};
 use std::alloc::Global;

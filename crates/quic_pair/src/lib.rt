@@ -2,14 +2,8 @@
 #![tactic(auto)]
 
 mod calls;
-mod early;
 pub mod pair;
-mod phase;
-mod places;
-mod replies;
-mod sent;
 mod settle;
-mod unsettled;
 
 pub use pair::Pair;
 pub use quic_steps::{Config, End, Last, PairError, Reply, Step};

@@ -8,30 +8,31 @@ ghost use Rattle.quic_endpoint.specs.Emitting.{EmitsAt, payload_view};
 ghost use Rattle.quic_endpoint.specs.Receiving.{data_length};
 ghost use Rattle.quic_endpoint.specs.Reports.{LosesPayloadAt, AcksPayloadAt};
 ghost use Rattle.quic_streams.specs.Sent.{sent_view, report_view};
-ghost use Rattle.quic_pair.specs.State.{pair_view, the_end, with_end, peer, two_ends, OnEnd};
-ghost use Rattle.quic_pair.specs.Calls.{Opens, Accepts, OnGiven, Writes, WritesChunks, Finishes, ResetsOn, StopsOn, SetsPriorityOn, AsksReset, ReadsOn, SetsSendWindow, SetsReceiveWindow, SetsMaxConcurrent, Polls};
-ghost use Rattle.quic_pair.specs.Steps.{Next, NextTaken, EndTakesFrame, needs_decision};
-ghost use Rattle.quic_pair.specs.Gone.{IsNoPayload, IsThere};
+ghost use Rattle.quic_exchange.specs.State.{the_end, with_end, peer, two_ends, OnEnd};
+ghost use Rattle.quic_pair.specs.Shown.{pair_view};
+ghost use Rattle.quic_exchange.specs.Calls.{Opens, Accepts, OnGiven, Writes, WritesChunks, Finishes, ResetsOn, StopsOn, SetsPriorityOn, AsksReset, ReadsOn, SetsSendWindow, SetsReceiveWindow, SetsMaxConcurrent, Polls};
+ghost use Rattle.quic_exchange.specs.Steps.{Next, NextTaken, EndTakesFrame, needs_decision};
+ghost use Rattle.quic_exchange.specs.Gone.{IsNoPayload, IsThere};
 ghost use Rattle.quic_streams.specs.Shown.{streams_view};
 ghost use Rattle.quic_link.specs.Endpoints.{limits_of};
-ghost use Rattle.quic_pair.specs.From.{Beginning, PairFrom, made_of, end_begun, at_once, waits_first};
-ghost use Rattle.quic_pair.specs.History.{History, past_of, waits_from};
-ghost use Rattle.quic_pair.specs.Headline.{Headline};
-ghost use Rattle.quic_pair.specs.Runs.{TakesSteps, StepByStep, Behind, BehindEarly, Around, Throughout, IsTrueOf, StaysIfRefused, AsksOf, WithholdsNone, PermitsAll};
-ghost use Rattle.quic_pair.specs.Unrefused.{RefusesNoFrame};
-ghost use Rattle.quic_pair.specs.Readable.{WithholdsNothing};
-ghost use Rattle.quic_pair.specs.Law.{Drains};
-ghost use Rattle.quic_pair.specs.Due.{AsksFor};
-ghost use Rattle.quic_pair.specs.Honest.{AreHonest};
-ghost use Rattle.quic_pair.specs.Refused.{IsRefused, IsRefusedSo};
+ghost use Rattle.quic_exchange.specs.From.{Beginning, PairFrom, made_of, end_begun, at_once, waits_first};
+ghost use Rattle.quic_exchange.specs.History.{History, past_of, waits_from};
+ghost use Rattle.quic_exchange.specs.Headline.{Headline};
+ghost use Rattle.quic_exchange.specs.Runs.{TakesSteps, StepByStep, Behind, BehindEarly, Around, Throughout, IsTrueOf, StaysIfRefused, AsksOf, WithholdsNone, PermitsAll};
+ghost use Rattle.quic_exchange.specs.Unrefused.{RefusesNoFrame};
+ghost use Rattle.quic_exchange.specs.Readable.{WithholdsNothing};
+ghost use Rattle.quic_exchange.specs.Law.{Drains};
+ghost use Rattle.quic_exchange.specs.Due.{AsksFor};
+ghost use Rattle.quic_exchange.specs.Honest.{AreHonest};
+ghost use Rattle.quic_exchange.specs.Refused.{IsRefused, IsRefusedSo};
 
 use crate::calls;
-use crate::early::{EarlyLimits, leave_all, needs_decision, with_all_noted};
-use crate::places::{frame_at, is_no_payload, mark_if, rest_at, settle};
-use crate::replies::{payload_reply, received_reply};
-use crate::sent::Sent;
-use crate::unsettled::Report;
 use quic_endpoint::{Endpoint, Payload};
+use quic_exchange::early::{EarlyLimits, leave_all, needs_decision, with_all_noted};
+use quic_exchange::places::{frame_at, is_no_payload, mark_if, rest_at, settle};
+use quic_exchange::replies::{payload_reply, received_reply};
+use quic_exchange::sent::Sent;
+use quic_exchange::unsettled::Report;
 use quic_receiving::ShouldTransmit;
 use quic_steps::{Config, End, PairError, Reply, Step};
 use quic_streams::state::StreamsState;
@@ -88,7 +89,7 @@ fn end_of(
 }
 
 // Two ends that have sent nothing: the client is given limits, and the server those of the client.
-#[tactic(auto, unfolding(crate::specs::State::pair_view))]
+#[tactic(auto, unfolding(crate::specs::Shown::pair_view))]
 fn made(
     alloc: Global,
     a: &Config,
@@ -123,7 +124,7 @@ fn emit_on(
     }
 }
 
-#[tactic(auto, unfolding(crate::specs::State::pair_view))]
+#[tactic(auto, unfolding(crate::specs::Shown::pair_view))]
 impl Pair {
     fn open(&mut self, who: End, dir: Dir) -> Result<Reply, PairError>
         ensures { NextTaken (pair_view self.old) (Step.Open who dir) result (pair_view self.new) }

@@ -1,30 +1,30 @@
 //! A network that is fair from now on completes what was begun.
 
 ghost use Rattle.std.specs.Prelude.{◌≡◌, is_some, true, ◌⊎◌, ◌≤◌, ◌<◌, IfSome, IfNone, IfErr, None, Err, OnOk, OnErr, List, [], ◌∷◌, length, vec_len, vec_capacity, ◌++◌};
-ghost use Rattle.quic_pair.specs.State.{pair_view};
-ghost use Rattle.quic_pair.specs.Steps.{NextTaken};
-ghost use Rattle.quic_pair.specs.Runs.{TakesSteps, StepsBy, StepByStep, Behind, BehindEarly, Around, Throughout, IsTrueOf, StaysIfRefused, AsksOf, WithholdsNone, sendings_of};
-ghost use Rattle.quic_pair.specs.History.{History, past_of};
-ghost use Rattle.quic_pair.specs.From.{Beginning, PairFrom};
-ghost use Rattle.quic_pair.specs.Tale.{Told};
-ghost use Rattle.quic_pair.specs.Headline.{Headline};
-ghost use Rattle.quic_pair.specs.Honest.{AreHonest};
-ghost use Rattle.quic_pair.specs.Refused.{IsRefusedSo};
-ghost use Rattle.quic_pair.specs.Unrefused.{RefusesNoFrame};
-ghost use Rattle.quic_pair.specs.Readable.{WithholdsNothing};
-ghost use Rattle.quic_pair.specs.Law.{Drains};
-ghost use Rattle.quic_pair.specs.Settling.{AreSettledIn, IsSoughtFor, IsSettledAt, is_quiet_at, IsSettling, IsCutOff, IsUndecided, TakesPhaseOrNone, IsAllReported, AreIdle, LeavesNoRest};
-ghost use Rattle.quic_pair.specs.Completed.{HaveArrived, HaveBeenRead, HaveBeenTold, AreAllAcked, AreStopsTold};
+ghost use Rattle.quic_pair.specs.Shown.{pair_view};
+ghost use Rattle.quic_exchange.specs.Steps.{NextTaken};
+ghost use Rattle.quic_exchange.specs.Runs.{TakesSteps, StepsBy, StepByStep, Behind, BehindEarly, Around, Throughout, IsTrueOf, StaysIfRefused, AsksOf, WithholdsNone, sendings_of};
+ghost use Rattle.quic_exchange.specs.History.{History, past_of};
+ghost use Rattle.quic_exchange.specs.From.{Beginning, PairFrom};
+ghost use Rattle.quic_exchange.specs.Tale.{Told};
+ghost use Rattle.quic_exchange.specs.Headline.{Headline};
+ghost use Rattle.quic_exchange.specs.Honest.{AreHonest};
+ghost use Rattle.quic_exchange.specs.Refused.{IsRefusedSo};
+ghost use Rattle.quic_exchange.specs.Unrefused.{RefusesNoFrame};
+ghost use Rattle.quic_exchange.specs.Readable.{WithholdsNothing};
+ghost use Rattle.quic_exchange.specs.Law.{Drains};
+ghost use Rattle.quic_exchange.specs.Settling.{AreSettledIn, IsSoughtFor, IsSettledAt, is_quiet_at, IsSettling, IsCutOff, IsUndecided, TakesPhaseOrNone, IsAllReported, AreIdle, LeavesNoRest};
+ghost use Rattle.quic_exchange.specs.Completed.{HaveArrived, HaveBeenRead, HaveBeenTold, AreAllAcked, AreStopsTold};
 
 use crate::pair::Pair;
-use crate::phase::{Phase, behind_reports, going_of};
+use quic_exchange::phase::{Phase, behind_reports, going_of};
 use quic_steps::{PairError, Reply, Step};
 use quic_values::OutOfMemory;
 
 /// A step that was taken, with its reply.
 pub type StepTaken = (Step, Result<Reply, PairError>);
 
-#[tactic(auto, unfolding(crate::specs::State::pair_view))]
+#[tactic(auto, unfolding(crate::specs::Shown::pair_view))]
 impl Pair {
     /// Takes the steps of a network that is fair from now on, with two applications that accept, read and poll all that
     /// comes, until neither end has something to send and every payload is settled. They accept and read at first, and then

@@ -2,8 +2,8 @@
 
 ghost use Rattle.std.specs.Prelude.{IfOk};
 ghost use Rattle.std.specs.List.{zip};
-ghost use Rattle.quic_pair.specs.State.{pair_view};
-ghost use Rattle.quic_pair.specs.From.{PairFrom, at_once};
+ghost use Rattle.quic_pair.specs.Shown.{pair_view};
+ghost use Rattle.quic_exchange.specs.From.{PairFrom, at_once};
 
 use quic_pair::{Config, End, Pair, PairError, Reply, Step};
 use quic_values::{Bytes, Dir, OutOfMemory, Side, StreamId, VarInt};

@@ -25,25 +25,25 @@ use Rattle.quic_link.proofs.Joint.{agrees}
 use Rattle.quic_link.proofs.Sums.{total-most}
 use Rattle.quic_steps.specs.declared.steps.End.{End}
 use Rattle.quic_steps.specs.declared.steps.End.TheVariants.{A, B}
-use Rattle.quic_pair.specs.declared.sent.Sent.{Sent}
-use Rattle.quic_pair.specs.Payloads.{is_accepted}
-use Rattle.quic_pair.specs.State.{PairState, peer, the_end}
-use Rattle.quic_pair.specs.History.{History, Past, past_of}
-use Rattle.quic_pair.specs.Headline.{SomeStream, HasOffset}
-use Rattle.quic_pair.specs.From.{Beginning, PairFrom}
-use Rattle.quic_pair.specs.Runs.{sendings_of}
-use Rattle.quic_pair.specs.Tale.{Tales, Told}
-use Rattle.quic_pair.specs.Readable.{SomeReset}
-use Rattle.quic_pair.specs.Settling.{AreIdle, AreSettledIn}
-use Rattle.quic_pair.specs.Completed.{HasArrived, HaveBeenRead, IsUnreset, IsUnstopped}
-use Rattle.quic_pair.proofs.Joined.{Seen}
-use Rattle.quic_pair.proofs.Flips.{seen-as, peer-peer}
-use Rattle.quic_pair.proofs.Headlines.{length-written}
-use Rattle.quic_pair.proofs.Marks.{AreMarkedSo, marks-from}
-use Rattle.quic_pair.proofs.Arrived.{have-arrived}
-use Rattle.quic_pair.proofs.Recounted.{made_at}
-use Rattle.quic_pair.proofs.Grown.{joined-from}
-use Rattle.quic_pair.proofs.ToldOnce.{told-once}
+use Rattle.quic_exchange.specs.declared.sent.Sent.{Sent}
+use Rattle.quic_exchange.specs.Payloads.{is_accepted}
+use Rattle.quic_exchange.specs.State.{PairState, peer, the_end}
+use Rattle.quic_exchange.specs.History.{History, Past, past_of}
+use Rattle.quic_exchange.specs.Headline.{SomeStream, HasOffset}
+use Rattle.quic_exchange.specs.From.{Beginning, PairFrom}
+use Rattle.quic_exchange.specs.Runs.{sendings_of}
+use Rattle.quic_exchange.specs.Tale.{Tales, Told}
+use Rattle.quic_exchange.specs.Readable.{SomeReset}
+use Rattle.quic_exchange.specs.Settling.{AreIdle, AreSettledIn}
+use Rattle.quic_exchange.specs.Completed.{HasArrived, HaveBeenRead, IsUnreset, IsUnstopped}
+use Rattle.quic_exchange.proofs.Joined.{Seen}
+use Rattle.quic_exchange.proofs.Flips.{seen-as, peer-peer}
+use Rattle.quic_exchange.proofs.Headlines.{length-written}
+use Rattle.quic_exchange.proofs.Marks.{AreMarkedSo, marks-from}
+use Rattle.quic_exchange.proofs.Arrived.{have-arrived}
+use Rattle.quic_exchange.proofs.Recounted.{made_at}
+use Rattle.quic_exchange.proofs.Grown.{joined-from}
+use Rattle.quic_exchange.proofs.ToldOnce.{told-once}
 use Rattle.quic_progress.specs.Progress.{IsAgreed, ForgetsNone, KnowsLimits, OwesNoDebt, CanBeTold, IsAllConsumed}
 use Rattle.quic_progress.specs.Consumed.{HaveResetsArrived, CountsAsConsumed, CountAsConsumed, ConsumeMost}
 use Rattle.quic_progress.proofs.Amounts.{total_in, sum-taken}

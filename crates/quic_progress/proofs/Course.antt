@@ -24,27 +24,27 @@ use Rattle.quic_steps.specs.declared.steps.Step.{Step}
 use Rattle.quic_steps.specs.declared.steps.Step.TheVariants as steps
 use Rattle.quic_steps.specs.declared.steps.Reply.TheVariants.{Done}
 use Rattle.quic_steps.specs.declared.steps.PairError.TheVariants.{LimitsBelow, Undecided, Decided, OutOfMemory as NoMemory}
-use Rattle.quic_pair.specs.declared.early.EarlyLimits.{EarlyLimits}
-use Rattle.quic_pair.specs.declared.sent.Sent.{Sent}
-use Rattle.quic_pair.specs.Payloads.{SentText, is_accepted}
-use Rattle.quic_pair.specs.Replies.{Answer}
-use Rattle.quic_pair.specs.Gone.{IsGone, with_all_noted}
-use Rattle.quic_pair.specs.State.{PairState, peer, the_end}
-use Rattle.quic_pair.specs.Steps.{NextOrdinary, NextTaken, Next, Accepted, Rejected, Retried, AcceptsEarly, RejectsEarly, Retries, needs_decision}
-use Rattle.quic_pair.specs.History.{History, past_of}
-use Rattle.quic_pair.specs.From.{Beginning, PairFrom, begun, next, IsNew, made_of, end_begun, limits_first, limits_of_a, limits_of_b, waits_of, waits_first}
-use Rattle.quic_pair.specs.Runs.{sendings_of}
-use Rattle.quic_pair.specs.Tale.{Tale, Tales, Told, TellsOfPair, StepTells, tale_begun, tales_begun, tale_first, tale_anew, told_of, with_limits_given, with_unsent_told}
-use Rattle.quic_pair.proofs.Origins.{Origin}
-use Rattle.quic_pair.proofs.Eras.{EraFrom}
-use Rattle.quic_pair.proofs.OwnDoings.{own-renewed, own-permits, own-unacked, spelled-seen}
-use Rattle.quic_pair.proofs.Recounted.{Recounted}
-use Rattle.quic_pair.proofs.Grown.{joined-from, grown-from}
-use Rattle.quic_pair.proofs.ToldOnce.{told-in-once, tells-next-once}
-use Rattle.quic_pair.proofs.Wide.{wide_made, as_linked, linked_at, decided-same, waiting-same, wide-same, most_of_streams, AreSound, sound-new, two-wide}
-use Rattle.quic_pair.proofs.Beneath.{waits-stay, tells-undecided}
-use Rattle.quic_pair.proofs.Led.{EraAt, era-at, Led, IsEarlyPair}
-use Rattle.quic_pair.proofs.LedSteps.{led-from, ordinary-linked}
+use Rattle.quic_exchange.specs.declared.early.EarlyLimits.{EarlyLimits}
+use Rattle.quic_exchange.specs.declared.sent.Sent.{Sent}
+use Rattle.quic_exchange.specs.Payloads.{SentText, is_accepted}
+use Rattle.quic_exchange.specs.Replies.{Answer}
+use Rattle.quic_exchange.specs.Gone.{IsGone, with_all_noted}
+use Rattle.quic_exchange.specs.State.{PairState, peer, the_end}
+use Rattle.quic_exchange.specs.Steps.{NextOrdinary, NextTaken, Next, Accepted, Rejected, Retried, AcceptsEarly, RejectsEarly, Retries, needs_decision}
+use Rattle.quic_exchange.specs.History.{History, past_of}
+use Rattle.quic_exchange.specs.From.{Beginning, PairFrom, begun, next, IsNew, made_of, end_begun, limits_first, limits_of_a, limits_of_b, waits_of, waits_first}
+use Rattle.quic_exchange.specs.Runs.{sendings_of}
+use Rattle.quic_exchange.specs.Tale.{Tale, Tales, Told, TellsOfPair, StepTells, tale_begun, tales_begun, tale_first, tale_anew, told_of, with_limits_given, with_unsent_told}
+use Rattle.quic_exchange.proofs.Origins.{Origin}
+use Rattle.quic_exchange.proofs.Eras.{EraFrom}
+use Rattle.quic_exchange.proofs.OwnDoings.{own-renewed, own-permits, own-unacked, spelled-seen}
+use Rattle.quic_exchange.proofs.Recounted.{Recounted}
+use Rattle.quic_exchange.proofs.Grown.{joined-from, grown-from}
+use Rattle.quic_exchange.proofs.ToldOnce.{told-in-once, tells-next-once}
+use Rattle.quic_exchange.proofs.Wide.{wide_made, as_linked, linked_at, decided-same, waiting-same, wide-same, most_of_streams, AreSound, sound-new, two-wide}
+use Rattle.quic_exchange.proofs.Beneath.{waits-stay, tells-undecided}
+use Rattle.quic_exchange.proofs.Led.{EraAt, era-at, Led, IsEarlyPair}
+use Rattle.quic_exchange.proofs.LedSteps.{led-from, ordinary-linked}
 use Rattle.quic_progress.specs.Progress.{StartsAtOnce, IsAgreed}
 use Rattle.quic_progress.proofs.Leaves.{Leaves, beside}
 use Rattle.quic_progress.proofs.Permissions.{Permission, AllData, DataOn, StreamsOf, is_asked, announced_of}

@@ -25,11 +25,11 @@ use Rattle.quic_link.specs.Endpoints.{LinkedEnd, Linked, IsOneOf}
 use Rattle.quic_link.proofs.Joint.{agrees}
 use Rattle.quic_endpoint.specs.Ends.{EndState}
 use Rattle.quic_endpoint.specs.Emitting.{PayloadView, control_in, place_at, EmitsStreams, EmitsNoStream, EmitsAt, whole, cut}
-use Rattle.quic_pair.specs.Payloads.{noted_of}
-use Rattle.quic_pair.proofs.Joined.{Stands}
-use Rattle.quic_pair.proofs.Lists.{one-of-first}
-use Rattle.quic_pair.proofs.DuePayloads.{noted-joined, is-last}
-use Rattle.quic_pair.proofs.PayloadPages.{Page, page-control}
+use Rattle.quic_exchange.specs.Payloads.{noted_of}
+use Rattle.quic_exchange.proofs.Joined.{Stands}
+use Rattle.quic_exchange.proofs.Lists.{one-of-first}
+use Rattle.quic_exchange.proofs.DuePayloads.{noted-joined, is-last}
+use Rattle.quic_exchange.proofs.PayloadPages.{Page, page-control}
 use Rattle.quic_progress.proofs.Permissions.{Permission, AllData, DataOn, StreamsOf, frame_of, is_asked, announced_of, permitted_of, eighth_of, IsWithin}
 use Rattle.quic_progress.proofs.Written.{DoesEntry, entered}
 

@@ -21,24 +21,24 @@ use Rattle.quic_steps.specs.declared.steps.Step.{Step}
 use Rattle.quic_steps.specs.declared.steps.Step.TheVariants as steps
 use Rattle.quic_steps.specs.declared.steps.Reply.TheVariants.{Done, DoneTransmit, Fault}
 use Rattle.quic_steps.specs.declared.steps.PairError.TheVariants.{OutOfMemory as NoMemory}
-use Rattle.quic_pair.specs.declared.sent.Sent.{Sent}
-use Rattle.quic_pair.specs.declared.unsettled.Report.TheVariants.{Lost, Acknowledged}
-use Rattle.quic_pair.specs.Payloads.{IsFrameAt}
-use Rattle.quic_pair.specs.Replies.{Answer, received_reply}
-use Rattle.quic_pair.specs.State.{PairState, peer, the_end, with_end, with_sent}
-use Rattle.quic_pair.specs.Steps.{NextOrdinary, HandsOver}
-use Rattle.quic_pair.specs.History.{History, Past, FramePlace, after, past_of}
-use Rattle.quic_pair.specs.Readable.{SomeReset}
-use Rattle.quic_pair.proofs.Beside.{IsOfNoPayload, beside}
-use Rattle.quic_pair.proofs.Flips.{peer-other}
-use Rattle.quic_pair.proofs.Origins.{Origin}
-use Rattle.quic_pair.proofs.Eras.{EraFrom, Changes, begun, next, changed, accepts, retries}
-use Rattle.quic_pair.proofs.Grown.{past-after}
-use Rattle.quic_pair.proofs.KeptPlaces.{frame-one}
-use Rattle.quic_pair.proofs.Marks.{AreMarkedSo, HasMark, marks-from, sent_on_end}
-use Rattle.quic_pair.proofs.PayloadKnows.{StaySent, stay-sent}
-use Rattle.quic_pair.proofs.Recounted.{made_at}
-use Rattle.quic_pair.proofs.Streamless.{stay-emitted, stay-delivered, stay-reported}
+use Rattle.quic_exchange.specs.declared.sent.Sent.{Sent}
+use Rattle.quic_exchange.specs.declared.unsettled.Report.TheVariants.{Lost, Acknowledged}
+use Rattle.quic_exchange.specs.Payloads.{IsFrameAt}
+use Rattle.quic_exchange.specs.Replies.{Answer, received_reply}
+use Rattle.quic_exchange.specs.State.{PairState, peer, the_end, with_end, with_sent}
+use Rattle.quic_exchange.specs.Steps.{NextOrdinary, HandsOver}
+use Rattle.quic_exchange.specs.History.{History, Past, FramePlace, after, past_of}
+use Rattle.quic_exchange.specs.Readable.{SomeReset}
+use Rattle.quic_exchange.proofs.Beside.{IsOfNoPayload, beside}
+use Rattle.quic_exchange.proofs.Flips.{peer-other}
+use Rattle.quic_exchange.proofs.Origins.{Origin}
+use Rattle.quic_exchange.proofs.Eras.{EraFrom, Changes, begun, next, changed, accepts, retries}
+use Rattle.quic_exchange.proofs.Grown.{past-after}
+use Rattle.quic_exchange.proofs.KeptPlaces.{frame-one}
+use Rattle.quic_exchange.proofs.Marks.{AreMarkedSo, HasMark, marks-from, sent_on_end}
+use Rattle.quic_exchange.proofs.PayloadKnows.{StaySent, stay-sent}
+use Rattle.quic_exchange.proofs.Recounted.{made_at}
+use Rattle.quic_exchange.proofs.Streamless.{stay-emitted, stay-delivered, stay-reported}
 use Rattle.quic_progress.proofs.Whole.{Run, Runs, runs-frame, by-call}
 use Rattle.quic_progress.proofs.WholeSteps.{step-runs, answer_streams, changed-runs}
 use Rattle.quic_progress.proofs.Paid.{paid-from}

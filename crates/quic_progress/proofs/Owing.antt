@@ -11,7 +11,7 @@ use Rattle.quic_retransmits.specs.Settling.{max_streams_in}
 use Rattle.quic_history.specs.Halves.{is_due_in}
 use Rattle.quic_history.specs.World.{World}
 use Rattle.quic_endpoint.specs.Ends.{EndState, with_counts_told}
-use Rattle.quic_pair.specs.Due.{AsksData, AsksStreams, AsksWindow}
+use Rattle.quic_exchange.specs.Due.{AsksData, AsksStreams, AsksWindow}
 use Rattle.quic_progress.proofs.Leaves.{May, SameRoom, HalfGoes}
 use Rattle.quic_progress.proofs.Permissions.{Permission, AllData, DataOn, StreamsOf, limit_in, next_limit_in, announced_of, permitted_of, eighth_of}
 use Rattle.quic_progress.proofs.Ends.{EndLeaves}

@@ -21,24 +21,24 @@ use Rattle.quic_steps.specs.declared.steps.Step.{Step}
 use Rattle.quic_steps.specs.declared.steps.Step.TheVariants as steps
 use Rattle.quic_steps.specs.declared.steps.Reply.TheVariants.{Done, Payload}
 use Rattle.quic_steps.specs.declared.steps.PairError.TheVariants.{NoSuchPayload, NoSuchFrame, NotAccepted, AlreadySettled, OutOfMemory as NoMemory}
-use Rattle.quic_pair.specs.declared.sent.Sent.{Sent}
-use Rattle.quic_pair.specs.declared.unsettled.Unsettled.{Unsettled}
-use Rattle.quic_pair.specs.declared.unsettled.Report.{Report}
-use Rattle.quic_pair.specs.declared.unsettled.Report.TheVariants.{Lost, Acknowledged}
-use Rattle.quic_pair.specs.Unsettled.{unsettled_after, may_report}
-use Rattle.quic_pair.specs.Replies.{Answer, received_reply}
-use Rattle.quic_pair.specs.State.{PairState, OnEnd, peer, the_end, with_end, with_sent}
-use Rattle.quic_pair.specs.Calls.{OnGiven, ReadsSo}
-use Rattle.quic_pair.specs.Steps.{NextOrdinary, Emits, Emitted, HandsOver, SentAfter, Delivers, Reports, SettlesPayload}
-use Rattle.quic_pair.specs.History.{History, past_of}
-use Rattle.quic_pair.specs.Due.{AsksAfterFrame, AsksFor, OnWriter}
-use Rattle.quic_pair.proofs.Lists.{slice_get-append_left, slice_set-keeps, slice_get-set_same}
-use Rattle.quic_pair.proofs.Marks.{sent_on_end}
-use Rattle.quic_pair.proofs.Origins.{Origin}
-use Rattle.quic_pair.proofs.Eras.{EraFrom}
-use Rattle.quic_pair.proofs.Due.{asks-for}
-use Rattle.quic_pair.proofs.Grown.{joined-from}
-use Rattle.quic_pair.proofs.Flips.{seen-as, peer-other}
+use Rattle.quic_exchange.specs.declared.sent.Sent.{Sent}
+use Rattle.quic_exchange.specs.declared.unsettled.Unsettled.{Unsettled}
+use Rattle.quic_exchange.specs.declared.unsettled.Report.{Report}
+use Rattle.quic_exchange.specs.declared.unsettled.Report.TheVariants.{Lost, Acknowledged}
+use Rattle.quic_exchange.specs.Unsettled.{unsettled_after, may_report}
+use Rattle.quic_exchange.specs.Replies.{Answer, received_reply}
+use Rattle.quic_exchange.specs.State.{PairState, OnEnd, peer, the_end, with_end, with_sent}
+use Rattle.quic_exchange.specs.Calls.{OnGiven, ReadsSo}
+use Rattle.quic_exchange.specs.Steps.{NextOrdinary, Emits, Emitted, HandsOver, SentAfter, Delivers, Reports, SettlesPayload}
+use Rattle.quic_exchange.specs.History.{History, past_of}
+use Rattle.quic_exchange.specs.Due.{AsksAfterFrame, AsksFor, OnWriter}
+use Rattle.quic_exchange.proofs.Lists.{slice_get-append_left, slice_set-keeps, slice_get-set_same}
+use Rattle.quic_exchange.proofs.Marks.{sent_on_end}
+use Rattle.quic_exchange.proofs.Origins.{Origin}
+use Rattle.quic_exchange.proofs.Eras.{EraFrom}
+use Rattle.quic_exchange.proofs.Due.{asks-for}
+use Rattle.quic_exchange.proofs.Grown.{joined-from}
+use Rattle.quic_exchange.proofs.Flips.{seen-as, peer-other}
 use Rattle.quic_history.proofs.Traces.{itself}
 use Rattle.quic_receiving.specs.declared.errors.ReadableError.{ReadableError}
 use Rattle.quic_progress.proofs.Leaves.{May}

@@ -26,16 +26,16 @@ use Rattle.quic_steps.specs.declared.steps.Last.{Last}
 use Rattle.quic_steps.specs.declared.steps.Last.TheVariants as last
 use Rattle.quic_steps.specs.declared.steps.Reply.TheVariants.{Done, DoneTransmit, Fault, Id, Wrote, WroteChunks, Stopped, Read, Code, Event as EventReply}
 use Rattle.quic_steps.specs.declared.steps.PairError.TheVariants.{OutOfMemory as NoMemory}
-use Rattle.quic_pair.specs.Replies.{Answer}
-use Rattle.quic_pair.specs.State.{PairState, peer, the_end}
-use Rattle.quic_pair.specs.Steps.{NextOrdinary}
-use Rattle.quic_pair.specs.History.{History, Past, Flow, after, past_of, with_flow, ends_flow, resets_with, stops_with, tells_reset, tells_stop, completes, writes_more, reads_chunks, reads_last, after_event, is_same_end}
-use Rattle.quic_pair.specs.From.{end_begun}
-use Rattle.quic_pair.proofs.Flips.{peer-peer}
-use Rattle.quic_pair.proofs.Origins.{Origin}
-use Rattle.quic_pair.proofs.Eras.{EraFrom, IsBegun, Changes, begun, next, changed, accepts, retries}
-use Rattle.quic_pair.proofs.Grown.{past-after}
-use Rattle.quic_pair.proofs.Recounted.{made_at}
+use Rattle.quic_exchange.specs.Replies.{Answer}
+use Rattle.quic_exchange.specs.State.{PairState, peer, the_end}
+use Rattle.quic_exchange.specs.Steps.{NextOrdinary}
+use Rattle.quic_exchange.specs.History.{History, Past, Flow, after, past_of, with_flow, ends_flow, resets_with, stops_with, tells_reset, tells_stop, completes, writes_more, reads_chunks, reads_last, after_event, is_same_end}
+use Rattle.quic_exchange.specs.From.{end_begun}
+use Rattle.quic_exchange.proofs.Flips.{peer-peer}
+use Rattle.quic_exchange.proofs.Origins.{Origin}
+use Rattle.quic_exchange.proofs.Eras.{EraFrom, IsBegun, Changes, begun, next, changed, accepts, retries}
+use Rattle.quic_exchange.proofs.Grown.{past-after}
+use Rattle.quic_exchange.proofs.Recounted.{made_at}
 use Rattle.quic_progress.proofs.Spent.{outstanding}
 use Rattle.quic_progress.proofs.Whole.{Runs}
 use Rattle.quic_progress.proofs.WholeSteps.{step-runs, stop-runs, changed-runs}

@@ -58,16 +58,16 @@ use Rattle.quic_steps.specs.declared.steps.Step.{Step as PairStep}
 use Rattle.quic_steps.specs.declared.steps.Step.TheVariants as steps
 use Rattle.quic_steps.specs.declared.steps.Reply.TheVariants.{Done, Payload}
 use Rattle.quic_steps.specs.declared.steps.PairError.TheVariants.{NoSuchPayload, NotAccepted, AlreadySettled, OutOfMemory as NoMemory}
-use Rattle.quic_pair.specs.declared.unsettled.Report.{Report}
-use Rattle.quic_pair.specs.declared.unsettled.Report.TheVariants.{Lost, Acknowledged}
-use Rattle.quic_pair.specs.Unsettled.{unsettled_after}
-use Rattle.quic_pair.specs.Replies.{Answer}
-use Rattle.quic_pair.specs.State.{PairState, the_end, with_end, with_sent}
-use Rattle.quic_pair.specs.Calls.{OnGiven, ReadsSo}
-use Rattle.quic_pair.specs.Steps.{NextOrdinary, Emitted, Reports, SettlesPayload, is_server, needs_decision}
-use Rattle.quic_pair.proofs.CallsSetting.{told-streams}
-use Rattle.quic_pair.proofs.Left.{AreLeft}
-use Rattle.quic_pair.proofs.OwnDoings.{AreUntaken, AreSpelled, untaken-here}
+use Rattle.quic_exchange.specs.declared.unsettled.Report.{Report}
+use Rattle.quic_exchange.specs.declared.unsettled.Report.TheVariants.{Lost, Acknowledged}
+use Rattle.quic_exchange.specs.Unsettled.{unsettled_after}
+use Rattle.quic_exchange.specs.Replies.{Answer}
+use Rattle.quic_exchange.specs.State.{PairState, the_end, with_end, with_sent}
+use Rattle.quic_exchange.specs.Calls.{OnGiven, ReadsSo}
+use Rattle.quic_exchange.specs.Steps.{NextOrdinary, Emitted, Reports, SettlesPayload, is_server, needs_decision}
+use Rattle.quic_exchange.proofs.CallsSetting.{told-streams}
+use Rattle.quic_exchange.proofs.Left.{AreLeft}
+use Rattle.quic_exchange.proofs.OwnDoings.{AreUntaken, AreSpelled, untaken-here}
 use Rattle.quic_progress.specs.Progress.{sets_permits}
 use Rattle.quic_progress.proofs.Undecided.{none-parts, none-acks-still}
 

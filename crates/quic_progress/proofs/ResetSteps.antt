@@ -26,20 +26,20 @@ use Rattle.quic_steps.specs.declared.steps.Last.{Last}
 use Rattle.quic_steps.specs.declared.steps.Last.TheVariants as last
 use Rattle.quic_steps.specs.declared.steps.Reply.TheVariants.{Done, DoneTransmit, Fault, Id, Wrote, WroteChunks, Stopped, Read, Code, Payload, Event as EventReply}
 use Rattle.quic_steps.specs.declared.steps.PairError.TheVariants.{NoSuchPayload, NoSuchFrame, NotAccepted, AlreadySettled, OutOfMemory as NoMemory}
-use Rattle.quic_pair.specs.declared.sent.Sent.{Sent}
-use Rattle.quic_pair.specs.declared.unsettled.Report.TheVariants.{Lost, Acknowledged}
-use Rattle.quic_pair.specs.Replies.{Answer, handled_reply}
-use Rattle.quic_pair.specs.State.{PairState, peer, the_end, with_end}
-use Rattle.quic_pair.specs.Steps.{NextOrdinary, Delivers, Emitted, SettlesPayload, Reports}
-use Rattle.quic_pair.specs.History.{Past, Flow, FramePlace, after, with_flow, ends_flow, resets_with, stops_with, tells_reset, tells_stop, completes, writes_more, reads_chunks, reads_last, after_event, is_same_end}
-use Rattle.quic_pair.specs.Tale.{Tales, WasPayload, GivenUp, parts_in, StepTells, told_of, with_deed}
-use Rattle.quic_pair.proofs.Beside.{IsOfNoPayload, beside}
-use Rattle.quic_pair.proofs.Counted.{Counted}
-use Rattle.quic_pair.proofs.Left.{AreLeft}
-use Rattle.quic_pair.proofs.Lists.{one-of-last}
-use Rattle.quic_pair.proofs.Marks.{AreMarkedSo, sent_on_end}
-use Rattle.quic_pair.proofs.PayloadKnows.{StaySent, stay-sent}
-use Rattle.quic_pair.proofs.Streamless.{stay-emitted, stay-delivered, stay-reported}
+use Rattle.quic_exchange.specs.declared.sent.Sent.{Sent}
+use Rattle.quic_exchange.specs.declared.unsettled.Report.TheVariants.{Lost, Acknowledged}
+use Rattle.quic_exchange.specs.Replies.{Answer, handled_reply}
+use Rattle.quic_exchange.specs.State.{PairState, peer, the_end, with_end}
+use Rattle.quic_exchange.specs.Steps.{NextOrdinary, Delivers, Emitted, SettlesPayload, Reports}
+use Rattle.quic_exchange.specs.History.{Past, Flow, FramePlace, after, with_flow, ends_flow, resets_with, stops_with, tells_reset, tells_stop, completes, writes_more, reads_chunks, reads_last, after_event, is_same_end}
+use Rattle.quic_exchange.specs.Tale.{Tales, WasPayload, GivenUp, parts_in, StepTells, told_of, with_deed}
+use Rattle.quic_exchange.proofs.Beside.{IsOfNoPayload, beside}
+use Rattle.quic_exchange.proofs.Counted.{Counted}
+use Rattle.quic_exchange.proofs.Left.{AreLeft}
+use Rattle.quic_exchange.proofs.Lists.{one-of-last}
+use Rattle.quic_exchange.proofs.Marks.{AreMarkedSo, sent_on_end}
+use Rattle.quic_exchange.proofs.PayloadKnows.{StaySent, stay-sent}
+use Rattle.quic_exchange.proofs.Streamless.{stay-emitted, stay-delivered, stay-reported}
 use Rattle.quic_progress.proofs.Ends.{WritesNone}
 use Rattle.quic_progress.proofs.Tracked.{Forth, forth-same}
 use Rattle.quic_progress.proofs.GivenUps.{WasAckedIn, GivesNoneUp, all-stay}

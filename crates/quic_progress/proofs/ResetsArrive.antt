@@ -17,26 +17,26 @@ use Rattle.quic_steps.specs.declared.steps.End.TheVariants.{A, B}
 use Rattle.quic_steps.specs.declared.steps.Step.{Step}
 use Rattle.quic_steps.specs.declared.steps.Step.TheVariants as steps
 use Rattle.quic_steps.specs.declared.steps.Reply.TheVariants.{Done}
-use Rattle.quic_pair.specs.declared.sent.Sent.{Sent}
-use Rattle.quic_pair.specs.Gone.{with_noted, with_all_noted, noted_at}
-use Rattle.quic_pair.specs.State.{PairState, the_end}
-use Rattle.quic_pair.specs.History.{History, Past, FramePlace, after, past_of}
-use Rattle.quic_pair.specs.Settling.{IsIdle, AreIdle, AreSettledIn}
-use Rattle.quic_pair.specs.Steps.{AcceptsEarly, Retries}
-use Rattle.quic_pair.specs.From.{Beginning, PairFrom}
-use Rattle.quic_pair.specs.Tale.{Tale, Tales, told_of, with_limits_given, with_unsent_told}
-use Rattle.quic_pair.proofs.Counted.{Counted}
-use Rattle.quic_pair.proofs.Flips.{seen-as}
-use Rattle.quic_pair.proofs.Left.{AreLeft}
-use Rattle.quic_pair.proofs.Lists.{slice_get-within, one-of-first, one-of-last}
-use Rattle.quic_pair.proofs.Marks.{marks-from}
-use Rattle.quic_pair.proofs.PayloadKnows.{StaySent, stay-sent}
-use Rattle.quic_pair.proofs.Recounted.{made_at}
-use Rattle.quic_pair.proofs.Origins.{Origin}
-use Rattle.quic_pair.proofs.OwnDoings.{AreUntaken}
-use Rattle.quic_pair.proofs.Eras.{EraFrom, begun, next, changed, Changes, accepts, retries, ToldIn, tales_in, tales_changed}
-use Rattle.quic_pair.proofs.Grown.{grown-from, past-after}
-use Rattle.quic_pair.proofs.ToldOnce.{told-in-once}
+use Rattle.quic_exchange.specs.declared.sent.Sent.{Sent}
+use Rattle.quic_exchange.specs.Gone.{with_noted, with_all_noted, noted_at}
+use Rattle.quic_exchange.specs.State.{PairState, the_end}
+use Rattle.quic_exchange.specs.History.{History, Past, FramePlace, after, past_of}
+use Rattle.quic_exchange.specs.Settling.{IsIdle, AreIdle, AreSettledIn}
+use Rattle.quic_exchange.specs.Steps.{AcceptsEarly, Retries}
+use Rattle.quic_exchange.specs.From.{Beginning, PairFrom}
+use Rattle.quic_exchange.specs.Tale.{Tale, Tales, told_of, with_limits_given, with_unsent_told}
+use Rattle.quic_exchange.proofs.Counted.{Counted}
+use Rattle.quic_exchange.proofs.Flips.{seen-as}
+use Rattle.quic_exchange.proofs.Left.{AreLeft}
+use Rattle.quic_exchange.proofs.Lists.{slice_get-within, one-of-first, one-of-last}
+use Rattle.quic_exchange.proofs.Marks.{marks-from}
+use Rattle.quic_exchange.proofs.PayloadKnows.{StaySent, stay-sent}
+use Rattle.quic_exchange.proofs.Recounted.{made_at}
+use Rattle.quic_exchange.proofs.Origins.{Origin}
+use Rattle.quic_exchange.proofs.OwnDoings.{AreUntaken}
+use Rattle.quic_exchange.proofs.Eras.{EraFrom, begun, next, changed, Changes, accepts, retries, ToldIn, tales_in, tales_changed}
+use Rattle.quic_exchange.proofs.Grown.{grown-from, past-after}
+use Rattle.quic_exchange.proofs.ToldOnce.{told-in-once}
 use Rattle.quic_progress.specs.Progress.{IsAgreed}
 use Rattle.quic_progress.specs.Consumed.{HaveResetsArrived}
 use Rattle.quic_progress.proofs.Tracked.{forth-same}

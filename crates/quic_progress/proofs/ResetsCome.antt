@@ -27,24 +27,24 @@ use Rattle.quic_endpoint.specs.Emitting.{PayloadView, control_in}
 use Rattle.quic_endpoint.specs.Reports.{LosesPayloadAt, AcksPayloadAt}
 use Rattle.quic_steps.specs.declared.steps.End.{End}
 use Rattle.quic_steps.specs.declared.steps.End.TheVariants.{A, B}
-use Rattle.quic_pair.specs.declared.sent.Sent.{Sent}
-use Rattle.quic_pair.specs.declared.unsettled.Unsettled.{Unsettled}
-use Rattle.quic_pair.specs.declared.unsettled.Report.{Report}
-use Rattle.quic_pair.specs.declared.unsettled.Report.TheVariants.{Lost, Acknowledged}
-use Rattle.quic_pair.specs.Unsettled.{unsettled_after}
-use Rattle.quic_pair.specs.Payloads.{metas_in, codes_in}
-use Rattle.quic_pair.specs.Replies.{Answer}
-use Rattle.quic_pair.specs.State.{PairState, the_end, with_end, with_sent}
-use Rattle.quic_pair.specs.Steps.{Emits, HandsOver, SentAfter, Reports}
-use Rattle.quic_pair.specs.History.{Past, FramePlace}
-use Rattle.quic_pair.specs.Readable.{SomeReset}
-use Rattle.quic_pair.specs.Tale.{Tale, Tales, WasPayload, Carried, GivenUp, parts_in}
-use Rattle.quic_pair.proofs.Counted.{Counted}
-use Rattle.quic_pair.proofs.KeptPlaces.{reset-stays, reset-more}
-use Rattle.quic_pair.proofs.Left.{AreLeft, resets-among}
-use Rattle.quic_pair.proofs.Lists.{slice_get-append_left, slice_set-keeps, slice_get-set_same, slice_get-within, place-of, one-of-last}
-use Rattle.quic_pair.proofs.Marks.{AreMarkedSo}
-use Rattle.quic_pair.proofs.PayloadKnows.{StaySent}
+use Rattle.quic_exchange.specs.declared.sent.Sent.{Sent}
+use Rattle.quic_exchange.specs.declared.unsettled.Unsettled.{Unsettled}
+use Rattle.quic_exchange.specs.declared.unsettled.Report.{Report}
+use Rattle.quic_exchange.specs.declared.unsettled.Report.TheVariants.{Lost, Acknowledged}
+use Rattle.quic_exchange.specs.Unsettled.{unsettled_after}
+use Rattle.quic_exchange.specs.Payloads.{metas_in, codes_in}
+use Rattle.quic_exchange.specs.Replies.{Answer}
+use Rattle.quic_exchange.specs.State.{PairState, the_end, with_end, with_sent}
+use Rattle.quic_exchange.specs.Steps.{Emits, HandsOver, SentAfter, Reports}
+use Rattle.quic_exchange.specs.History.{Past, FramePlace}
+use Rattle.quic_exchange.specs.Readable.{SomeReset}
+use Rattle.quic_exchange.specs.Tale.{Tale, Tales, WasPayload, Carried, GivenUp, parts_in}
+use Rattle.quic_exchange.proofs.Counted.{Counted}
+use Rattle.quic_exchange.proofs.KeptPlaces.{reset-stays, reset-more}
+use Rattle.quic_exchange.proofs.Left.{AreLeft, resets-among}
+use Rattle.quic_exchange.proofs.Lists.{slice_get-append_left, slice_set-keeps, slice_get-set_same, slice_get-within, place-of, one-of-last}
+use Rattle.quic_exchange.proofs.Marks.{AreMarkedSo}
+use Rattle.quic_exchange.proofs.PayloadKnows.{StaySent}
 use Rattle.quic_progress.proofs.Tracked.{Forth, forth-same, forth-marked}
 use Rattle.quic_progress.proofs.GivenUps.{AllStay}
 use Rattle.quic_progress.proofs.ResetsPend.{KeepsResets}

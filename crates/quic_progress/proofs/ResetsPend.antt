@@ -33,13 +33,13 @@ use Rattle.quic_steps.specs.declared.steps.Step.{Step as PairStep}
 use Rattle.quic_steps.specs.declared.steps.Step.TheVariants as steps
 use Rattle.quic_steps.specs.declared.steps.Reply.TheVariants.{Done}
 use Rattle.quic_steps.specs.declared.steps.PairError.TheVariants.{NoSuchPayload, NoSuchFrame, NotAccepted, AlreadySettled, OutOfMemory as NoMemory}
-use Rattle.quic_pair.specs.declared.sent.Sent.{Sent}
-use Rattle.quic_pair.specs.declared.unsettled.Report.TheVariants.{Lost, Acknowledged}
-use Rattle.quic_pair.specs.Replies.{Answer}
-use Rattle.quic_pair.specs.State.{PairState, peer, the_end, with_end, with_sent}
-use Rattle.quic_pair.specs.Calls.{OnGiven, ReadsSo}
-use Rattle.quic_pair.specs.Steps.{NextOrdinary, HandsOver, Delivers, SettlesPayload}
-use Rattle.quic_pair.proofs.Lists.{one-of-first}
+use Rattle.quic_exchange.specs.declared.sent.Sent.{Sent}
+use Rattle.quic_exchange.specs.declared.unsettled.Report.TheVariants.{Lost, Acknowledged}
+use Rattle.quic_exchange.specs.Replies.{Answer}
+use Rattle.quic_exchange.specs.State.{PairState, peer, the_end, with_end, with_sent}
+use Rattle.quic_exchange.specs.Calls.{OnGiven, ReadsSo}
+use Rattle.quic_exchange.specs.Steps.{NextOrdinary, HandsOver, Delivers, SettlesPayload}
+use Rattle.quic_exchange.proofs.Lists.{one-of-first}
 use Rattle.quic_progress.proofs.Ends.{WritesNone}
 
 abbrev pub KeepsResets : Pending → Pending → Type 0

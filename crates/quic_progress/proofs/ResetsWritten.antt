@@ -17,7 +17,7 @@ use Rattle.quic_streams.specs.Payload.{Sheet, PayloadPlace, with_frame_written_i
 use Rattle.quic_link.specs.Endpoints.{IsOneOf}
 use Rattle.quic_endpoint.specs.Ends.{EndState}
 use Rattle.quic_endpoint.specs.Emitting.{PayloadView, control_in, place_at, EmitsAt, whole, cut}
-use Rattle.quic_pair.proofs.Lists.{one-of-first, one-of-last}
+use Rattle.quic_exchange.proofs.Lists.{one-of-first, one-of-last}
 
 -- what became of a reset while frames were written
 abbrev pub IsLeftOf : World → Pending → Pending → ℕ × ℕ → Type 0

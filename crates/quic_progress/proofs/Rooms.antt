@@ -17,19 +17,19 @@ use Rattle.quic_link.specs.Endpoints.{LinkedEnd, sent_on, came_on}
 use Rattle.quic_link.proofs.Joint.{agrees}
 use Rattle.quic_steps.specs.declared.steps.End.{End}
 use Rattle.quic_steps.specs.declared.steps.End.TheVariants.{A, B}
-use Rattle.quic_pair.specs.State.{PairState, peer, the_end}
-use Rattle.quic_pair.specs.History.{History, Past, past_of}
-use Rattle.quic_pair.specs.Readable.{side_of}
-use Rattle.quic_pair.specs.From.{Beginning, PairFrom}
-use Rattle.quic_pair.specs.Runs.{sendings_of}
-use Rattle.quic_pair.specs.Tale.{Tale, Tales, Told}
-use Rattle.quic_pair.specs.Settling.{AreIdle, AreSettledIn}
-use Rattle.quic_pair.specs.Completed.{HaveBeenRead, IsUnreset, IsUnstopped}
-use Rattle.quic_pair.proofs.Joined.{Seen}
-use Rattle.quic_pair.proofs.Flips.{seen-as}
-use Rattle.quic_pair.proofs.Counted.{Counted}
-use Rattle.quic_pair.proofs.Grown.{joined-from}
-use Rattle.quic_pair.proofs.ToldOnce.{told-once}
+use Rattle.quic_exchange.specs.State.{PairState, peer, the_end}
+use Rattle.quic_exchange.specs.History.{History, Past, past_of}
+use Rattle.quic_exchange.specs.Readable.{side_of}
+use Rattle.quic_exchange.specs.From.{Beginning, PairFrom}
+use Rattle.quic_exchange.specs.Runs.{sendings_of}
+use Rattle.quic_exchange.specs.Tale.{Tale, Tales, Told}
+use Rattle.quic_exchange.specs.Settling.{AreIdle, AreSettledIn}
+use Rattle.quic_exchange.specs.Completed.{HaveBeenRead, IsUnreset, IsUnstopped}
+use Rattle.quic_exchange.proofs.Joined.{Seen}
+use Rattle.quic_exchange.proofs.Flips.{seen-as}
+use Rattle.quic_exchange.proofs.Counted.{Counted}
+use Rattle.quic_exchange.proofs.Grown.{joined-from}
+use Rattle.quic_exchange.proofs.ToldOnce.{told-once}
 use Rattle.quic_progress.specs.Progress.{IsAgreed, IsReadOn, IsAllRead, HaveRoom}
 use Rattle.quic_progress.proofs.Course.{course-from, agreed-waits}
 use Rattle.quic_progress.proofs.Settled.{streams-now}

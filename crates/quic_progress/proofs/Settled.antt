@@ -13,15 +13,15 @@ use Rattle.quic_history.proofs.Histories.{permits-now}
 use Rattle.quic_streams.specs.declared.settling.SentPayload.{SentPayload}
 use Rattle.quic_steps.specs.declared.steps.End.{End}
 use Rattle.quic_steps.specs.declared.steps.End.TheVariants.{A, B}
-use Rattle.quic_pair.specs.declared.sent.Sent.{Sent}
-use Rattle.quic_pair.specs.State.{PairState, peer, the_end}
-use Rattle.quic_pair.specs.History.{History}
-use Rattle.quic_pair.specs.From.{Beginning, PairFrom}
-use Rattle.quic_pair.specs.Runs.{sendings_of}
-use Rattle.quic_pair.specs.Tale.{Tale, Tales, Told}
-use Rattle.quic_pair.specs.Settling.{IsIdle, AreIdle, AreSettledIn}
-use Rattle.quic_pair.proofs.Lists.{slice_get-within}
-use Rattle.quic_pair.proofs.ToldOnce.{told-once}
+use Rattle.quic_exchange.specs.declared.sent.Sent.{Sent}
+use Rattle.quic_exchange.specs.State.{PairState, peer, the_end}
+use Rattle.quic_exchange.specs.History.{History}
+use Rattle.quic_exchange.specs.From.{Beginning, PairFrom}
+use Rattle.quic_exchange.specs.Runs.{sendings_of}
+use Rattle.quic_exchange.specs.Tale.{Tale, Tales, Told}
+use Rattle.quic_exchange.specs.Settling.{IsIdle, AreIdle, AreSettledIn}
+use Rattle.quic_exchange.proofs.Lists.{slice_get-within}
+use Rattle.quic_exchange.proofs.ToldOnce.{told-once}
 use Rattle.quic_progress.specs.Progress.{IsAgreed, ForgetsNone, OwesNoDebt, CanBeTold, TakesMore, IsReadOn, KnowsAnnounced, KnowsPermitted, IsAllRead, MayGoOn, KnowsLimits, KnowLimits, KnowsStreams, KnowMost}
 use Rattle.quic_progress.proofs.Permissions.{Permission, AllData, DataOn, StreamsOf, is_asked, limit_in, next_limit_in, announced_of, unannounced}
 use Rattle.quic_progress.proofs.Grows.{IsTold}

@@ -23,17 +23,17 @@ use Rattle.quic_steps.specs.declared.steps.End.TheVariants.{A, B}
 use Rattle.quic_steps.specs.declared.steps.Step.TheVariants as steps
 use Rattle.quic_steps.specs.declared.steps.Reply.TheVariants.{Done, DoneTransmit}
 use Rattle.quic_steps.specs.declared.steps.PairError.TheVariants.{NoSuchPayload, NoSuchFrame, NotAccepted, AlreadySettled, OutOfMemory as NoMemory}
-use Rattle.quic_pair.specs.declared.sent.Sent.{Sent}
-use Rattle.quic_pair.specs.declared.unsettled.Unsettled.{Unsettled}
-use Rattle.quic_pair.specs.declared.unsettled.Report.{Report}
-use Rattle.quic_pair.specs.declared.unsettled.Report.TheVariants.{Lost, Acknowledged}
-use Rattle.quic_pair.specs.Unsettled.{unsettled_after}
-use Rattle.quic_pair.specs.Payloads.{SentText, is_accepted, IsMarked}
-use Rattle.quic_pair.specs.Replies.{Answer, received_reply}
-use Rattle.quic_pair.specs.State.{PairState, peer, the_end, with_end, with_sent}
-use Rattle.quic_pair.specs.Steps.{HandsOver, Delivers, SentAfter, Reports, SettlesPayload}
-use Rattle.quic_pair.specs.Tale.{Tale, Tales, StepTells, HearsOne, with_frame_heard, told_of}
-use Rattle.quic_pair.proofs.Lists.{slice_set-keeps, slice_get-slice_set, slice_get-set_same, slice_get-within, place-of}
+use Rattle.quic_exchange.specs.declared.sent.Sent.{Sent}
+use Rattle.quic_exchange.specs.declared.unsettled.Unsettled.{Unsettled}
+use Rattle.quic_exchange.specs.declared.unsettled.Report.{Report}
+use Rattle.quic_exchange.specs.declared.unsettled.Report.TheVariants.{Lost, Acknowledged}
+use Rattle.quic_exchange.specs.Unsettled.{unsettled_after}
+use Rattle.quic_exchange.specs.Payloads.{SentText, is_accepted, IsMarked}
+use Rattle.quic_exchange.specs.Replies.{Answer, received_reply}
+use Rattle.quic_exchange.specs.State.{PairState, peer, the_end, with_end, with_sent}
+use Rattle.quic_exchange.specs.Steps.{HandsOver, Delivers, SentAfter, Reports, SettlesPayload}
+use Rattle.quic_exchange.specs.Tale.{Tale, Tales, StepTells, HearsOne, with_frame_heard, told_of}
+use Rattle.quic_exchange.proofs.Lists.{slice_set-keeps, slice_get-slice_set, slice_get-set_same, slice_get-within, place-of}
 use Rattle.quic_progress.proofs.Leaves.{May}
 use Rattle.quic_progress.proofs.Permissions.{Permission, AllData, DataOn, StreamsOf, frame_of, is_asked, announced_of, unannounced, IsWithin, announced-left, unannounced-left, within-left}
 use Rattle.quic_progress.proofs.Grows.{IsTold, AllGrow, told-less, told-grown, heard_of, heard-told}

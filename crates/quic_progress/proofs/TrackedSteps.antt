@@ -21,18 +21,18 @@ use Rattle.quic_steps.specs.declared.steps.Step.{Step}
 use Rattle.quic_steps.specs.declared.steps.Step.TheVariants as steps
 use Rattle.quic_steps.specs.declared.steps.Reply.TheVariants.{Payload}
 use Rattle.quic_steps.specs.declared.steps.PairError.TheVariants.{OutOfMemory as NoMemory}
-use Rattle.quic_pair.specs.declared.sent.Sent.{Sent}
-use Rattle.quic_pair.specs.Payloads.{SentText, is_accepted, noted_of}
-use Rattle.quic_pair.specs.Replies.{Answer}
-use Rattle.quic_pair.specs.State.{PairState, peer, the_end, with_end, with_sent}
-use Rattle.quic_pair.specs.Steps.{NextOrdinary, Emits, Emitted}
-use Rattle.quic_pair.specs.Tale.{Tales, StepTells}
-use Rattle.quic_pair.specs.History.{Past}
-use Rattle.quic_pair.proofs.Lists.{slice_get-push, slice_get-append_left, one-of-first}
-use Rattle.quic_pair.proofs.Marks.{sent_on_end}
-use Rattle.quic_pair.proofs.Origins.{Origin}
-use Rattle.quic_pair.proofs.Joined.{Joined}
-use Rattle.quic_pair.proofs.Flips.{seen-as}
+use Rattle.quic_exchange.specs.declared.sent.Sent.{Sent}
+use Rattle.quic_exchange.specs.Payloads.{SentText, is_accepted, noted_of}
+use Rattle.quic_exchange.specs.Replies.{Answer}
+use Rattle.quic_exchange.specs.State.{PairState, peer, the_end, with_end, with_sent}
+use Rattle.quic_exchange.specs.Steps.{NextOrdinary, Emits, Emitted}
+use Rattle.quic_exchange.specs.Tale.{Tales, StepTells}
+use Rattle.quic_exchange.specs.History.{Past}
+use Rattle.quic_exchange.proofs.Lists.{slice_get-push, slice_get-append_left, one-of-first}
+use Rattle.quic_exchange.proofs.Marks.{sent_on_end}
+use Rattle.quic_exchange.proofs.Origins.{Origin}
+use Rattle.quic_exchange.proofs.Joined.{Joined}
+use Rattle.quic_exchange.proofs.Flips.{seen-as}
 use Rattle.quic_progress.proofs.Permissions.{Permission, AllData, DataOn, StreamsOf, frame_of, is_asked, next_limit_in, announced_of, unannounced, IsWithin}
 use Rattle.quic_progress.proofs.Grows.{AllGrow, all-grow, told-less, told-grown, heard_of}
 use Rattle.quic_progress.proofs.Emitted.{Emptied, emptied, noted-asked}

@@ -21,20 +21,20 @@ use Rattle.quic_steps.specs.declared.steps.Step.{Step}
 use Rattle.quic_steps.specs.declared.steps.Step.TheVariants as steps
 use Rattle.quic_steps.specs.declared.steps.Reply.TheVariants.{Done, Payload}
 use Rattle.quic_steps.specs.declared.steps.PairError.TheVariants.{NoSuchPayload, NotAccepted, AlreadySettled, OutOfMemory as NoMemory}
-use Rattle.quic_pair.specs.declared.sent.Sent.{Sent}
-use Rattle.quic_pair.specs.declared.unsettled.Report.{Report}
-use Rattle.quic_pair.specs.declared.unsettled.Report.TheVariants.{Lost, Acknowledged}
-use Rattle.quic_pair.specs.Unsettled.{unsettled_after}
-use Rattle.quic_pair.specs.Payloads.{SentText}
-use Rattle.quic_pair.specs.Replies.{Answer}
-use Rattle.quic_pair.specs.Gone.{IsGone, with_noted, with_all_noted, noted_at}
-use Rattle.quic_pair.specs.State.{PairState, the_end}
-use Rattle.quic_pair.specs.Steps.{NextOrdinary, Emits, Emitted, Reports, SettlesPayload, needs_decision}
-use Rattle.quic_pair.specs.Tale.{Part, Carried, GivenUp, parts_in}
-use Rattle.quic_pair.proofs.Lists.{slice_get-push, slice_get-slice_set}
-use Rattle.quic_pair.proofs.Left.{AreLeft}
-use Rattle.quic_pair.proofs.OwnDoings.{AreUntaken, AreSpelled, untaken-here}
-use Rattle.quic_pair.proofs.Beneath.{asks-noted}
+use Rattle.quic_exchange.specs.declared.sent.Sent.{Sent}
+use Rattle.quic_exchange.specs.declared.unsettled.Report.{Report}
+use Rattle.quic_exchange.specs.declared.unsettled.Report.TheVariants.{Lost, Acknowledged}
+use Rattle.quic_exchange.specs.Unsettled.{unsettled_after}
+use Rattle.quic_exchange.specs.Payloads.{SentText}
+use Rattle.quic_exchange.specs.Replies.{Answer}
+use Rattle.quic_exchange.specs.Gone.{IsGone, with_noted, with_all_noted, noted_at}
+use Rattle.quic_exchange.specs.State.{PairState, the_end}
+use Rattle.quic_exchange.specs.Steps.{NextOrdinary, Emits, Emitted, Reports, SettlesPayload, needs_decision}
+use Rattle.quic_exchange.specs.Tale.{Part, Carried, GivenUp, parts_in}
+use Rattle.quic_exchange.proofs.Lists.{slice_get-push, slice_get-slice_set}
+use Rattle.quic_exchange.proofs.Left.{AreLeft}
+use Rattle.quic_exchange.proofs.OwnDoings.{AreUntaken, AreSpelled, untaken-here}
+use Rattle.quic_exchange.proofs.Beneath.{asks-noted}
 use Rattle.quic_progress.proofs.Permissions.{Permission, AllData, DataOn, StreamsOf, is_asked}
 use Rattle.quic_progress.proofs.Tracked.{UnderWay}
 use Rattle.quic_progress.proofs.TrackedSteps.{IsBeside, sents-beside}

@@ -16,18 +16,18 @@ use Rattle.quic_steps.specs.declared.steps.Step.{Step}
 use Rattle.quic_steps.specs.declared.steps.Step.TheVariants as steps
 use Rattle.quic_steps.specs.declared.steps.Reply.TheVariants.{Done}
 use Rattle.quic_steps.specs.declared.steps.PairError.TheVariants.{LimitsBelow, Undecided, Decided, OutOfMemory as NoMemory}
-use Rattle.quic_pair.specs.declared.early.EarlyLimits.{EarlyLimits}
-use Rattle.quic_pair.specs.Replies.{Answer}
-use Rattle.quic_pair.specs.State.{PairState}
-use Rattle.quic_pair.specs.Steps.{NextOrdinary, NextTaken, Next, RejectsEarly, Retries, needs_decision}
-use Rattle.quic_pair.specs.History.{History, past_of}
-use Rattle.quic_pair.specs.From.{Beginning, PairFrom, begun, next, made_of, end_begun, limits_first, limits_of_a}
-use Rattle.quic_pair.proofs.OwnDoings.{own-bare, own-renewed, own-unacked, spelled-seen}
-use Rattle.quic_pair.proofs.Grown.{grown-from}
-use Rattle.quic_pair.proofs.Wide.{wide_made, as_linked, linked_at, waiting-same}
-use Rattle.quic_pair.proofs.Beneath.{waits-stay}
-use Rattle.quic_pair.proofs.Led.{EraAt, era-at}
-use Rattle.quic_pair.proofs.LedSteps.{led-from}
+use Rattle.quic_exchange.specs.declared.early.EarlyLimits.{EarlyLimits}
+use Rattle.quic_exchange.specs.Replies.{Answer}
+use Rattle.quic_exchange.specs.State.{PairState}
+use Rattle.quic_exchange.specs.Steps.{NextOrdinary, NextTaken, Next, RejectsEarly, Retries, needs_decision}
+use Rattle.quic_exchange.specs.History.{History, past_of}
+use Rattle.quic_exchange.specs.From.{Beginning, PairFrom, begun, next, made_of, end_begun, limits_first, limits_of_a}
+use Rattle.quic_exchange.proofs.OwnDoings.{own-bare, own-renewed, own-unacked, spelled-seen}
+use Rattle.quic_exchange.proofs.Grown.{grown-from}
+use Rattle.quic_exchange.proofs.Wide.{wide_made, as_linked, linked_at, waiting-same}
+use Rattle.quic_exchange.proofs.Beneath.{waits-stay}
+use Rattle.quic_exchange.proofs.Led.{EraAt, era-at}
+use Rattle.quic_exchange.proofs.LedSteps.{led-from}
 use Rattle.quic_progress.specs.Progress.{sets_permits, SetsNone, RejectsUnset}
 use Rattle.quic_progress.proofs.Permissions.{IsWithin}
 use Rattle.quic_progress.proofs.Plain.{KeepsCount, KeepsPermits, permits-then, permits-at, permits-beside, permits-next}

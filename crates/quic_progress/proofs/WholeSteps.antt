@@ -23,17 +23,17 @@ use Rattle.quic_steps.specs.declared.steps.Step.{Step as PairStep}
 use Rattle.quic_steps.specs.declared.steps.Step.TheVariants as steps
 use Rattle.quic_steps.specs.declared.steps.Reply.TheVariants.{Done, Payload}
 use Rattle.quic_steps.specs.declared.steps.PairError.TheVariants.{NoSuchPayload, NoSuchFrame, NotAccepted, AlreadySettled, OutOfMemory as NoMemory}
-use Rattle.quic_pair.specs.declared.sent.Sent.{Sent}
-use Rattle.quic_pair.specs.declared.unsettled.Report.TheVariants.{Lost, Acknowledged}
-use Rattle.quic_pair.specs.Replies.{Answer, handled_reply}
-use Rattle.quic_pair.specs.State.{PairState, peer, the_end, with_end, with_sent}
-use Rattle.quic_pair.specs.Calls.{OnGiven, ReadsSo}
-use Rattle.quic_pair.specs.Steps.{NextOrdinary, HandsOver, Delivers, SettlesPayload, Emits, Emitted}
-use Rattle.quic_pair.specs.History.{Past}
-use Rattle.quic_pair.proofs.Origins.{Origin}
-use Rattle.quic_pair.proofs.Eras.{Changes, accepts, retries}
-use Rattle.quic_pair.proofs.OwnDoings.{own-unacked}
-use Rattle.quic_pair.proofs.CallsSetting.{told-streams}
+use Rattle.quic_exchange.specs.declared.sent.Sent.{Sent}
+use Rattle.quic_exchange.specs.declared.unsettled.Report.TheVariants.{Lost, Acknowledged}
+use Rattle.quic_exchange.specs.Replies.{Answer, handled_reply}
+use Rattle.quic_exchange.specs.State.{PairState, peer, the_end, with_end, with_sent}
+use Rattle.quic_exchange.specs.Calls.{OnGiven, ReadsSo}
+use Rattle.quic_exchange.specs.Steps.{NextOrdinary, HandsOver, Delivers, SettlesPayload, Emits, Emitted}
+use Rattle.quic_exchange.specs.History.{Past}
+use Rattle.quic_exchange.proofs.Origins.{Origin}
+use Rattle.quic_exchange.proofs.Eras.{Changes, accepts, retries}
+use Rattle.quic_exchange.proofs.OwnDoings.{own-unacked}
+use Rattle.quic_exchange.proofs.CallsSetting.{told-streams}
 use Rattle.quic_progress.proofs.Whole.{Runs, RunsBy, by-call, by-at, runs-same, runs-at, runs-call, runs-reads, runs-emits, runs-lost, runs-acked, runs-frame}
 
 pub answer_streams : (answer : Result ShouldTransmit ReceiveError) (e : EndState) → (with_answer_told answer e).streams ≡ e.streams

@@ -6,12 +6,12 @@ use Rattle.quic_sending.proofs.Pieces.{uncovered-skip}
 use Rattle.quic_flows.specs.Flow.{SendFlow, passing, retained}
 use Rattle.quic_history.specs.History.{total_over}
 use Rattle.quic_history.proofs.Traces.{itself}
-use Rattle.quic_pair.specs.History.{History}
-use Rattle.quic_pair.specs.State.{PairState}
-use Rattle.quic_pair.specs.From.{Beginning, PairFrom}
-use Rattle.quic_pair.specs.Runs.{sendings_of}
-use Rattle.quic_pair.specs.Tale.{Tales, Told}
-use Rattle.quic_pair.specs.Completed.{IsAllAcked, AreAllAcked}
+use Rattle.quic_exchange.specs.History.{History}
+use Rattle.quic_exchange.specs.State.{PairState}
+use Rattle.quic_exchange.specs.From.{Beginning, PairFrom}
+use Rattle.quic_exchange.specs.Runs.{sendings_of}
+use Rattle.quic_exchange.specs.Tale.{Tales, Told}
+use Rattle.quic_exchange.specs.Completed.{IsAllAcked, AreAllAcked}
 use Rattle.quic_progress.specs.Progress.{AreFree}
 
 none_uncovered : (d : ℕ) (ps : List (List ℕ)) → total_length ps ≤ d → total_length (uncovered d ps) ≡ 0

@@ -3,12 +3,12 @@ use Rattle.std.specs.Prelude.{ℕ, ◌-◌, ◌/◌, ◌≤◌, List}
 use Rattle.quic_history.specs.World.{World}
 use Rattle.quic_steps.specs.declared.steps.End.{End}
 use Rattle.quic_steps.specs.declared.steps.End.TheVariants.{A, B}
-use Rattle.quic_pair.specs.State.{PairState, peer, the_end}
-use Rattle.quic_pair.specs.History.{Past}
-use Rattle.quic_pair.specs.Readable.{SomeReset}
-use Rattle.quic_pair.specs.declared.sent.Sent.{Sent}
+use Rattle.quic_exchange.specs.State.{PairState, peer, the_end}
+use Rattle.quic_exchange.specs.History.{Past}
+use Rattle.quic_exchange.specs.Readable.{SomeReset}
+use Rattle.quic_exchange.specs.declared.sent.Sent.{Sent}
 use Rattle.quic_link.specs.Endpoints.{IsOneOf}
-use Rattle.quic_pair.specs.Tale.{Tale, Tales}
+use Rattle.quic_exchange.specs.Tale.{Tale, Tales}
 use Rattle.quic_progress.specs.Progress.{OwesNoDebt, CanBeTold, IsAllConsumed}
 
 -- of each stream that its writer gave up a RESET_STREAM frame was accepted, which tells its final size (RFC 9000 sections 4.5 and 19.4)

@@ -14,11 +14,11 @@ use Rattle.quic_steps.specs.declared.steps.End.TheVariants.{A, B}
 use Rattle.quic_steps.specs.declared.steps.Step.{Step}
 use Rattle.quic_steps.specs.declared.steps.Step.TheVariants as steps
 use Rattle.quic_steps.specs.declared.steps.Reply.TheVariants.{Done}
-use Rattle.quic_pair.specs.From.{Beginning}
-use Rattle.quic_pair.specs.State.{PairState, peer, the_end}
-use Rattle.quic_pair.specs.History.{History, Past}
-use Rattle.quic_pair.specs.Completed.{IsUnreset, IsUnstopped}
-use Rattle.quic_pair.specs.Tale.{Tale, Tales, retained_by}
+use Rattle.quic_exchange.specs.From.{Beginning}
+use Rattle.quic_exchange.specs.State.{PairState, peer, the_end}
+use Rattle.quic_exchange.specs.History.{History, Past}
+use Rattle.quic_exchange.specs.Completed.{IsUnreset, IsUnstopped}
+use Rattle.quic_exchange.specs.Tale.{Tale, Tales, retained_by}
 
 -- ---- where it holds
 

@@ -2,13 +2,13 @@
 #![tactic(auto)]
 
 ghost use Rattle.std.specs.Prelude.{length};
-ghost use Rattle.quic_pair.specs.State.{PairState};
-ghost use Rattle.quic_pair.specs.History.{History, past_of};
-ghost use Rattle.quic_pair.specs.From.{Beginning, PairFrom};
-ghost use Rattle.quic_pair.specs.Runs.{sendings_of};
-ghost use Rattle.quic_pair.specs.Tale.{Tales, Told};
-ghost use Rattle.quic_pair.specs.Settling.{AreIdle, AreSettledIn};
-ghost use Rattle.quic_pair.specs.Completed.{HaveBeenRead, AreAllAcked};
+ghost use Rattle.quic_exchange.specs.State.{PairState};
+ghost use Rattle.quic_exchange.specs.History.{History, past_of};
+ghost use Rattle.quic_exchange.specs.From.{Beginning, PairFrom};
+ghost use Rattle.quic_exchange.specs.Runs.{sendings_of};
+ghost use Rattle.quic_exchange.specs.Tale.{Tales, Told};
+ghost use Rattle.quic_exchange.specs.Settling.{AreIdle, AreSettledIn};
+ghost use Rattle.quic_exchange.specs.Completed.{HaveBeenRead, AreAllAcked};
 ghost use Rattle.quic_progress.specs.Consumed.{HaveResetsArrived, CountAsConsumed, ConsumeMost};
 ghost use Rattle.quic_progress.specs.Progress.{IsAgreed, ForgetsNone, KnowLimits, KnowMost, HaveRoom, AreFree};
 

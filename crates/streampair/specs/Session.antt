@@ -10,14 +10,15 @@ use Rattle.quic_steps.specs.declared.steps.Step.{Step}
 use Rattle.quic_steps.specs.declared.steps.PairError.{PairError}
 use Rattle.quic_steps.specs.declared.steps.PairError.TheVariants.{OutOfMemory as NoMemory, Undecided}
 use Rattle.quic_outgoing.specs.declared.limits.PeerLimits.{PeerLimits}
-use Rattle.quic_pair.specs.Replies.{Answer}
-use Rattle.quic_pair.specs.State.{PairState, pair_view}
-use Rattle.quic_pair.specs.Steps.{Next}
-use Rattle.quic_pair.specs.From.{Beginning, at_once, PairFrom}
-use Rattle.quic_pair.specs.History.{History, past_of}
-use Rattle.quic_pair.specs.Runs.{TakesSteps}
-use Rattle.quic_pair.specs.Settling.{IsSettling, IsCutOff, IsUndecided}
-use Rattle.quic_pair.specs.Completed.{HaveArrived, HaveBeenRead, HaveBeenTold}
+use Rattle.quic_exchange.specs.Replies.{Answer}
+use Rattle.quic_exchange.specs.State.{PairState}
+use Rattle.quic_pair.specs.Shown.{pair_view}
+use Rattle.quic_exchange.specs.Steps.{Next}
+use Rattle.quic_exchange.specs.From.{Beginning, at_once, PairFrom}
+use Rattle.quic_exchange.specs.History.{History, past_of}
+use Rattle.quic_exchange.specs.Runs.{TakesSteps}
+use Rattle.quic_exchange.specs.Settling.{IsSettling, IsCutOff, IsUndecided}
+use Rattle.quic_exchange.specs.Completed.{HaveArrived, HaveBeenRead, HaveBeenTold}
 use Rattle.streampair.specs.declared.session.Session.{Session}
 use Rattle.streampair.specs.declared.session.Session.TheVariants.{Start, Configured, Ready, Running}
 use Rattle.streampair.specs.declared.session.Stop.{Stop}

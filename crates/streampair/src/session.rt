@@ -2,7 +2,7 @@ ghost use Rattle.std.specs.Prelude.{◌≡◌, ◌≤◌, ◌++◌, IfOk, IfErr,
 ghost use Rattle.std.specs.Io.BufRead.{strip_last};
 ghost use Rattle.std.specs.List.{flat_map};
 ghost use Rattle.std.specs.Str.{IsAscii};
-ghost use Rattle.quic_pair.specs.State.{pair_view};
+ghost use Rattle.quic_pair.specs.Shown.{pair_view};
 ghost use Rattle.quic_lines.specs.Grammar.{MeansConfig, MeansNoConfig, MeansNoEarly};
 ghost use Rattle.streampair.specs.Session.{answer_line, ok_line, lines_of, AnswersLine, AnswersReady, AnswersRunning, IsStep, IsMadeOf, IsSettlement, settlement_text, IsServed, IsMalformed, IsStopOf, MeansNoLine, StopsAt, StopsWith, stop_of};
 

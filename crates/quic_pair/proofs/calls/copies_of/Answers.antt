@@ -1,6 +1,6 @@
 use Rattle.std.proofs.Common.{◌≡◌, ◌<◌, ◌≤◌, ◌++◌, ◌∷◌, [], ◌∙◌, length, ap, sym, rules, arith, Some}
 use Rattle.std.specs.Prelude.{slice_get, take}
-use Rattle.quic_pair.proofs.Lists.{take_more}
+use Rattle.quic_exchange.proofs.Lists.{take_more}
 use Rattle.quic_pair.proofs.calls.copies_of.Goals.{in-Some+in_ok-copy_from_slice+in_ok-push, in_default}
 use Rattle.quic_pair.proofs.calls.copies_of.Goals as goal
 

@@ -1,5 +1,5 @@
 use Rattle.std.proofs.Common.{refl}
-use Rattle.quic_pair.specs.State.{pair_view}
+use Rattle.quic_pair.specs.Shown.{pair_view}
 use Rattle.quic_pair.proofs.pair.made.Goals as goal
 
 pub returns : goal.returns

@@ -1,6 +1,6 @@
 use Rattle.std.proofs.Common.{◌∙◌, ap}
 use Rattle.std.proofs.lemmas.Result.{IfOk-weaker}
-use Rattle.quic_pair.specs.History.{History}
+use Rattle.quic_exchange.specs.History.{History}
 use Rattle.streampair.specs.Session.{settlement_text}
 use Rattle.streampair.proofs.session.settle_lines.Goals as goal
 

@@ -1,6 +1,6 @@
 use Rattle.std.proofs.Common.{refl}
 use Rattle.quic_endpoint.specs.Shown.{endpoint_view}
-use Rattle.quic_pair.specs.State.{pair_view}
+use Rattle.quic_pair.specs.Shown.{pair_view}
 use Rattle.quic_pair.proofs.pair.Pair.accept.Goals as goal
 
 pub returns-in-A : goal.returns-in-A

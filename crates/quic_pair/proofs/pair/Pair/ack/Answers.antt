@@ -1,9 +1,10 @@
 use Rattle.std.proofs.Common.{ap, refl, subst, ◌∙◌, ◌≡◌}
 use Rattle.quic_endpoint.specs.Reports.{AcksPayloadAt}
-use Rattle.quic_pair.specs.declared.unsettled.Report.TheVariants.{Acknowledged}
-use Rattle.quic_pair.specs.Reports.{KeepsBack}
-use Rattle.quic_pair.specs.State.{PairState, pair_view}
-use Rattle.quic_pair.proofs.Deeds.{report-refused, report-so, sent-same}
+use Rattle.quic_exchange.specs.declared.unsettled.Report.TheVariants.{Acknowledged}
+use Rattle.quic_exchange.specs.Reports.{KeepsBack}
+use Rattle.quic_exchange.specs.State.{PairState}
+use Rattle.quic_pair.specs.Shown.{pair_view}
+use Rattle.quic_exchange.proofs.Deeds.{report-refused, report-so, sent-same}
 use Rattle.quic_pair.proofs.pair.Pair.ack.Goals as goal
 
 pub returns-in-Err : goal.returns-in-Err

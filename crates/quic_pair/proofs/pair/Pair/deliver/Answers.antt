@@ -1,8 +1,9 @@
 use Rattle.std.proofs.Common.{refl, ap, ◌∙◌, ◌≡◌, subst}
-use Rattle.quic_pair.specs.Places.{MarksIf}
-use Rattle.quic_pair.specs.State.{PairState, OnEnd, peer, pair_view}
-use Rattle.quic_pair.specs.Steps.{EndTakesFrame}
-use Rattle.quic_pair.proofs.Deeds.{deliver-refused, deliver-so, sent-same}
+use Rattle.quic_exchange.specs.Places.{MarksIf}
+use Rattle.quic_exchange.specs.State.{PairState, OnEnd, peer}
+use Rattle.quic_pair.specs.Shown.{pair_view}
+use Rattle.quic_exchange.specs.Steps.{EndTakesFrame}
+use Rattle.quic_exchange.proofs.Deeds.{deliver-refused, deliver-so, sent-same}
 use Rattle.quic_pair.proofs.pair.Pair.deliver.Goals as goal
 
 pub returns-in-Err : goal.returns-in-Err

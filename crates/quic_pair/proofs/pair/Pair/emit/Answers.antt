@@ -2,12 +2,13 @@ use Rattle.std.specs.Option.{option_map}
 use Rattle.quic_streams.specs.Sent.{sent_view}
 use Rattle.std.proofs.Common.{ap, refl, ◌∙◌, ◌≡◌, length, ◌++◌, ◌∷◌, []}
 use Rattle.quic_endpoint.specs.Shown.{endpoint_view}
-use Rattle.quic_pair.specs.State.{PairState, pair_view}
-use Rattle.quic_pair.proofs.Deeds.{emit-so}
+use Rattle.quic_exchange.specs.State.{PairState}
+use Rattle.quic_pair.specs.Shown.{pair_view}
+use Rattle.quic_exchange.proofs.Deeds.{emit-so}
 use Rattle.quic_pair.proofs.pair.Pair.emit.Goals as goal
-use Rattle.quic_pair.specs.declared.sent.Sent.{Sent}
+use Rattle.quic_exchange.specs.declared.sent.Sent.{Sent}
 use Rattle.quic_endpoint.specs.Emitting.{payload_view}
-use Rattle.quic_pair.specs.Steps.{IsSentBy}
+use Rattle.quic_exchange.specs.Steps.{IsSentBy}
 
 pub returns : goal.returns
 unfolding pair_view

@@ -1,7 +1,7 @@
 use Rattle.std.proofs.Common.{rules}
 use Rattle.quic_streams.proofs.Results.{map_ok}
-use Rattle.quic_pair.specs.State.{pair_view}
-use Rattle.quic_pair.proofs.Deeds.{new-so}
+use Rattle.quic_pair.specs.Shown.{pair_view}
+use Rattle.quic_exchange.proofs.Deeds.{new-so}
 use Rattle.quic_pair.proofs.pair.Pair.new.Goals as goal
 
 pub returns : goal.returns

@@ -1,8 +1,8 @@
 use Rattle.std.proofs.Common.{rules}
 use Rattle.quic_streams.proofs.Results.{map_ok}
-use Rattle.quic_pair.specs.State.{pair_view}
-use Rattle.quic_pair.specs.From.{AreSoundLimits}
-use Rattle.quic_pair.proofs.Deeds.{new_early-so}
+use Rattle.quic_pair.specs.Shown.{pair_view}
+use Rattle.quic_exchange.specs.From.{AreSoundLimits}
+use Rattle.quic_exchange.proofs.Deeds.{new_early-so}
 use Rattle.quic_pair.proofs.pair.Pair.new_early.Goals as goal
 
 pub returns : goal.returns

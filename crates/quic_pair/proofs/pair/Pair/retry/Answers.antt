@@ -2,9 +2,10 @@ use Rattle.std.proofs.Common.{◌≡◌, ap, ◌∙◌, sym}
 use Rattle.quic_retransmits.specs.Pending.{Pending}
 use Rattle.quic_endpoint.specs.Ends.{EndState}
 use Rattle.quic_endpoint.specs.Shown.{endpoint_view}
-use Rattle.quic_pair.specs.Gone.{with_all_noted}
-use Rattle.quic_pair.specs.State.{PairState, pair_view}
-use Rattle.quic_pair.proofs.Gone.{waiting-of}
+use Rattle.quic_exchange.specs.Gone.{with_all_noted}
+use Rattle.quic_exchange.specs.State.{PairState}
+use Rattle.quic_pair.specs.Shown.{pair_view}
+use Rattle.quic_exchange.proofs.Gone.{waiting-of}
 use Rattle.quic_pair.proofs.pair.Pair.retry.Goals as goal
 
 pub returns : goal.returns

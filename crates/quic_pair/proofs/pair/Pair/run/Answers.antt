@@ -2,13 +2,13 @@ use Rattle.std.proofs.Common.{arith, rules, sym, ◌∙◌}
 use Rattle.std.proofs.lemmas.List.{length_push, map-id}
 use Rattle.std.proofs.lemmas.Iterator.Adapters.{YieldsList-from_vec}
 use Rattle.std.proofs.lemmas.Iterator.Consumers.{YieldsList-end}
-use Rattle.quic_pair.specs.Refused.{IsRefusedSo}
-use Rattle.quic_pair.specs.Runs.{none}
-use Rattle.quic_pair.specs.Unrefused.{RefusesNoFrame}
-use Rattle.quic_pair.specs.Readable.{WithholdsNothing}
-use Rattle.quic_pair.proofs.Leads.{headline-led, honest-led, refused-led, unrefused-led, readable-led, drains-led}
-use Rattle.quic_pair.proofs.Runs.{steps-more, from-steps, each-behind, each-early, each-around, each-asks, each-permits, each-after, each-stays}
-use Rattle.quic_pair.specs.Law.{Drains}
+use Rattle.quic_exchange.specs.Refused.{IsRefusedSo}
+use Rattle.quic_exchange.specs.Runs.{none}
+use Rattle.quic_exchange.specs.Unrefused.{RefusesNoFrame}
+use Rattle.quic_exchange.specs.Readable.{WithholdsNothing}
+use Rattle.quic_exchange.proofs.Leads.{headline-led, honest-led, refused-led, unrefused-led, readable-led, drains-led}
+use Rattle.quic_exchange.proofs.Runs.{steps-more, from-steps, each-behind, each-early, each-around, each-asks, each-permits, each-after, each-stays}
+use Rattle.quic_exchange.specs.Law.{Drains}
 use Rattle.quic_pair.proofs.pair.Pair.run.Goals as goal
 
 pub loop-step-init : goal.loop-step-init

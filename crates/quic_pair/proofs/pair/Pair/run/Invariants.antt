@@ -1,7 +1,7 @@
 use Rattle.std.proofs.Common.{◌≡◌, ◌≤◌, length, vec_len, vec_capacity}
 use Rattle.std.specs.List.{zip}
-use Rattle.quic_pair.specs.State.{pair_view}
-use Rattle.quic_pair.specs.Runs.{TakesSteps}
+use Rattle.quic_pair.specs.Shown.{pair_view}
+use Rattle.quic_exchange.specs.Runs.{TakesSteps}
 use Rattle.quic_pair.proofs.pair.Pair.run.Given as goal
 
 abbrev pub invariant-loop-step : goal.invariant-loop-step

@@ -1,7 +1,7 @@
 use Rattle.std.proofs.Common.{refl}
 use Rattle.std.proofs.lemmas.Int.{to_z-of_z}
 use Rattle.quic_endpoint.specs.Shown.{endpoint_view}
-use Rattle.quic_pair.specs.State.{pair_view}
+use Rattle.quic_pair.specs.Shown.{pair_view}
 use Rattle.quic_pair.proofs.pair.Pair.set_priority.Goals as goal
 
 pub returns-in-A : goal.returns-in-A

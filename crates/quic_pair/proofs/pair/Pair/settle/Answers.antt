@@ -1,16 +1,17 @@
 use Rattle.std.proofs.Common.{◌≡◌, ◌++◌, [], None, true, false, refl, sym, ap, ◌∙◌, inl, inr, subst}
 use Rattle.std.specs.Prelude.{is_some}
-use Rattle.quic_pair.specs.State.{PairState, pair_view}
-use Rattle.quic_pair.specs.History.{History}
-use Rattle.quic_pair.specs.Refused.{IsRefusedSo}
-use Rattle.quic_pair.specs.Unrefused.{RefusesNoFrame}
-use Rattle.quic_pair.specs.Readable.{WithholdsNothing}
-use Rattle.quic_pair.specs.Law.{Drains}
-use Rattle.quic_pair.specs.Runs.{TakesSteps, none}
-use Rattle.quic_pair.proofs.Leads.{headline-led, honest-led, refused-led, unrefused-led, readable-led, drains-led}
-use Rattle.quic_pair.proofs.Runs.{from-steps, each-behind, each-early, each-around, each-asks, each-permits, each-after, each-stays}
-use Rattle.quic_pair.proofs.Completes.{steps-decided, none-waits, reported-led, idle-led, no-rest-led, acked-led, arrived-led, read-led, told-led, stops-led}
-use Rattle.quic_pair.proofs.PolledOut.{polled-out}
+use Rattle.quic_exchange.specs.State.{PairState}
+use Rattle.quic_pair.specs.Shown.{pair_view}
+use Rattle.quic_exchange.specs.History.{History}
+use Rattle.quic_exchange.specs.Refused.{IsRefusedSo}
+use Rattle.quic_exchange.specs.Unrefused.{RefusesNoFrame}
+use Rattle.quic_exchange.specs.Readable.{WithholdsNothing}
+use Rattle.quic_exchange.specs.Law.{Drains}
+use Rattle.quic_exchange.specs.Runs.{TakesSteps, none}
+use Rattle.quic_exchange.proofs.Leads.{headline-led, honest-led, refused-led, unrefused-led, readable-led, drains-led}
+use Rattle.quic_exchange.proofs.Runs.{from-steps, each-behind, each-early, each-around, each-asks, each-permits, each-after, each-stays}
+use Rattle.quic_exchange.proofs.Completes.{steps-decided, none-waits, reported-led, idle-led, no-rest-led, acked-led, arrived-led, read-led, told-led, stops-led}
+use Rattle.quic_exchange.proofs.PolledOut.{polled-out}
 use Rattle.quic_pair.proofs.pair.Pair.settle.Goals as goal
 
 -- it is not decided

@@ -1,10 +1,10 @@
 use Rattle.std.proofs.Common.{false, sym, subst}
-use Rattle.quic_pair.specs.declared.phase.Phase.TheVariants as phase
-use Rattle.quic_pair.specs.State.{pair_view}
-use Rattle.quic_pair.specs.History.{History}
-use Rattle.quic_pair.specs.Runs.{none}
-use Rattle.quic_pair.specs.Settling.{FollowsPhases, none as follows_none}
-use Rattle.quic_pair.proofs.Settling.{GoesBy, steps-on, follows-on, cut-off, on-err}
+use Rattle.quic_exchange.specs.declared.phase.Phase.TheVariants as phase
+use Rattle.quic_pair.specs.Shown.{pair_view}
+use Rattle.quic_exchange.specs.History.{History}
+use Rattle.quic_exchange.specs.Runs.{none}
+use Rattle.quic_exchange.specs.Settling.{FollowsPhases, none as follows_none}
+use Rattle.quic_exchange.proofs.Settling.{GoesBy, steps-on, follows-on, cut-off, on-err}
 use Rattle.quic_pair.proofs.pair.Pair.settle_into.Goals as goal
 
 pub loop-next-init : goal.loop-next-init

@@ -1,8 +1,8 @@
 use Rattle.std.proofs.Common.{false, ◌-◌, ◌^◌, length}
-use Rattle.quic_pair.specs.State.{pair_view}
-use Rattle.quic_pair.specs.declared.phase.Phase.TheVariants as phase
-use Rattle.quic_pair.specs.Settling.{FollowsPhases}
-use Rattle.quic_pair.proofs.Settling.{GoesBy}
+use Rattle.quic_pair.specs.Shown.{pair_view}
+use Rattle.quic_exchange.specs.declared.phase.Phase.TheVariants as phase
+use Rattle.quic_exchange.specs.Settling.{FollowsPhases}
+use Rattle.quic_exchange.proofs.Settling.{GoesBy}
 use Rattle.quic_pair.proofs.pair.Pair.settle_into.Given as goal
 
 abbrev pub invariant-loop-next : goal.invariant-loop-next

@@ -1,10 +1,10 @@
 use Rattle.std.proofs.Common.{◌≡◌, true, false, Err, sym, ◌∙◌}
 use Rattle.std.specs.Prelude.{◌&&◌, is_some}
 use Rattle.quic_steps.specs.declared.steps.PairError.TheVariants.{Undecided}
-use Rattle.quic_pair.specs.State.{pair_view}
-use Rattle.quic_pair.specs.Steps.{Next, needs_decision}
-use Rattle.quic_pair.specs.From.{next}
-use Rattle.quic_pair.proofs.Leads.{next-refused, next-taken, headline-led, honest-led, refused-led, unrefused-led, readable-led, drains-led, asks-led, not-withheld-led, stays-led}
+use Rattle.quic_pair.specs.Shown.{pair_view}
+use Rattle.quic_exchange.specs.Steps.{Next, needs_decision}
+use Rattle.quic_exchange.specs.From.{next}
+use Rattle.quic_exchange.proofs.Leads.{next-refused, next-taken, headline-led, honest-led, refused-led, unrefused-led, readable-led, drains-led, asks-led, not-withheld-led, stays-led}
 use Rattle.quic_pair.proofs.pair.Pair.step.Goals as goal
 
 -- a step that has to wait is refused

@@ -1,10 +1,10 @@
 use Rattle.std.proofs.Common.{◌≡◌, ◌++◌, [], ◌∷◌, length, Result, Ok, Err, ap, sym, subst, ◌∙◌, inl, arith}
 use Rattle.quic_values.specs.declared.memory.OutOfMemory.{OutOfMemory}
 use Rattle.quic_steps.specs.declared.steps.Step.{Step}
-use Rattle.quic_pair.specs.declared.phase.Phase.{Phase}
-use Rattle.quic_pair.specs.State.{pair_view}
-use Rattle.quic_pair.specs.Steps.{NextTaken}
-use Rattle.quic_pair.specs.Settling.{phase_after, is_quiet_at}
+use Rattle.quic_exchange.specs.declared.phase.Phase.{Phase}
+use Rattle.quic_pair.specs.Shown.{pair_view}
+use Rattle.quic_exchange.specs.Steps.{NextTaken}
+use Rattle.quic_exchange.specs.Settling.{phase_after, is_quiet_at}
 use Rattle.quic_pair.proofs.pair.Pair.take.Goals as goal
 
 ok_same : (x y : Phase) → ◌≡◌ {A = Result Phase OutOfMemory} (Ok x) (Ok y) → x ≡ y

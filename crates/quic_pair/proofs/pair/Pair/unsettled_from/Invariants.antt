@@ -1,4 +1,4 @@
-use Rattle.quic_pair.specs.Settling.{AreSettledIn}
+use Rattle.quic_exchange.specs.Settling.{AreSettledIn}
 use Rattle.quic_pair.proofs.pair.Pair.unsettled_from.Given as goal
 
 abbrev pub invariant-loop-number : goal.invariant-loop-number

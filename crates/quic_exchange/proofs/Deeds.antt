@@ -1,0 +1,187 @@
+-- Steps on payloads, put together from what their parts do.
+use Rattle.std.proofs.Common.{◌≡◌, ℕ, Bool, List, [], ◌∷◌, ◌++◌, length, Some, None, Result, Ok, Err, refl, sym, ap, ◌∙◌, subst, inl, inr}
+use Rattle.std.specs.Prelude.{◌^◌, ◌<◌, ◌≤◌, slice_get, slice_set}
+use Rattle.std.proofs.lemmas.Option.{none-some, same_Some}
+use Rattle.quic_values.specs.declared.ids.Side.TheVariants.{Client, Server}
+use Rattle.quic_outgoing.specs.declared.limits.PeerLimits.{PeerLimits}
+use Rattle.quic_link.specs.Endpoints.{limits_of}
+use Rattle.quic_steps.specs.declared.steps.Config.{Config}
+use Rattle.quic_exchange.specs.From.{PairFrom, AreSoundLimits, made_of, end_begun, at_once, begun}
+use Rattle.std.specs.Global.{Vec}
+use Rattle.quic_values.specs.declared.memory.OutOfMemory.{OutOfMemory}
+use Rattle.quic_wire.proofs.Steps.{some_is}
+use Rattle.quic_wire.specs.declared.error.ReceiveError.{ReceiveError}
+use Rattle.quic_wire.specs.declared.error.ReceiveError.TheVariants as receive_error
+use Rattle.quic_receiving.specs.declared.transmit.ShouldTransmit.{ShouldTransmit}
+use Rattle.quic_streams.specs.declared.settling.SentPayload.{SentPayload}
+use Rattle.quic_streams.specs.Settling.{SentView}
+use Rattle.quic_streams.specs.Sent.{sent_view, report_view}
+use Rattle.quic_endpoint.specs.Ends.{EndState}
+use Rattle.quic_endpoint.specs.Emitting.{PayloadView, EmitsAt}
+use Rattle.quic_endpoint.specs.Receiving.{AccountsFrame}
+use Rattle.quic_steps.specs.declared.steps.End.{End}
+use Rattle.quic_steps.specs.declared.steps.End.TheVariants.{A, B}
+use Rattle.quic_steps.specs.declared.steps.PairError.{PairError}
+use Rattle.quic_steps.specs.declared.steps.PairError.TheVariants as refusals
+use Rattle.quic_exchange.specs.declared.sent.Sent.{Sent}
+use Rattle.quic_exchange.specs.declared.unsettled.Report.{Report}
+use Rattle.quic_exchange.specs.declared.places.HandedFrame.{HandedFrame}
+use Rattle.quic_exchange.specs.Replies.{received_reply, report_reply, payload_reply}
+use Rattle.quic_exchange.specs.Payloads.{IsMarked}
+use Rattle.quic_exchange.specs.Places.{FindsFrame, FailsToFind, MarksIf, MarksAt}
+use Rattle.quic_exchange.specs.Unsettled.{unsettled_after}
+use Rattle.quic_exchange.specs.Reports.{TakesRestAt, FailsToTake, KeepsBack}
+use Rattle.quic_exchange.specs.State.{PairState, OnEnd, peer, the_end, with_end, with_sent, two_ends}
+use Rattle.quic_exchange.specs.Steps.{IsSentBy, Emits, Emitted, EndTakesFrame, Delivers, HandsOver, SentAfter, Reports, SettlesPayload}
+use Rattle.quic_exchange.proofs.Lists.{slice_get-set_same, slice_set-twice}
+
+pub sent-same : (p : PairState) (who : End) (e : EndState) → (with_end p who e).sent ≡ p.sent
+sent-same p A e = refl
+sent-same p B e = refl
+
+-- ---- a payload is written
+
+module _ (old new : PairState) (who : End) (most : ℕ) (fair : Bool) (payload : PayloadView) (number : ℕ) (sent : Sent) (sent_is : IsSentBy who payload sent) (is : new.sent ≡ old.sent ++ sent ∷ []) (waits : new.waits ≡ old.waits) (count : number ≡ length old.sent) where
+  sent_behind : (k : End) (e : EndState) → two_ends new.a new.b ≡ with_end (two_ends old.a old.b) k e → new ≡ with_sent (with_end old k e) (old.sent ++ sent ∷ [])
+  sent_behind A e m = ap (λ l. record new { sent = l }) is ∙ ap (λ w. record new { sent = old.sent ++ sent ∷ []; waits = w }) waits ∙ ap (λ (p : PairState). record { a = p.a; b = p.b; sent = old.sent ++ sent ∷ []; waits = old.waits }) m
+  sent_behind B e m = ap (λ l. record new { sent = l }) is ∙ ap (λ w. record new { sent = old.sent ++ sent ∷ []; waits = w }) waits ∙ ap (λ (p : PairState). record { a = p.a; b = p.b; sent = old.sent ++ sent ∷ []; waits = old.waits }) m
+
+  end_alone : (k : End) → the_end (two_ends old.a old.b) k ≡ the_end old k
+  end_alone A = refl
+  end_alone B = refl
+
+  emits-so : (answer : Result (Unit {0}) OutOfMemory) → OnEnd (λ e f. EmitsAt most fair e payload answer f) (two_ends old.a old.b) who (two_ends new.a new.b) → Emits old who most fair answer payload new
+  emits-so answer d = record { end = d.end; emits = subst (λ e. EmitsAt most fair e payload answer d.end) (end_alone who) d.does; sent = sent; sent_is = sent_is; is = sent_behind who d.end d.is }
+
+  pub emit-so : {E : Type 0} (written : Result (Unit {0}) OutOfMemory) (copy : Result (Vec ℕ) E) → OnEnd (λ e f. EmitsAt most fair e payload written f) (two_ends old.a old.b) who (two_ends new.a new.b)
+      → ((v : Vec ℕ) → copy ≡ Ok v → v.items ≡ payload.bytes) → Emitted old who most fair (payload_reply number written copy) new
+  emit-so (Ok done) (Ok bytes) d b = record { payload = payload; emits = emits-so (Ok tt) d; number_is = count; bytes_are = b bytes refl }
+  emit-so (Ok done) (Err error) d b = inr (record { answer = Ok tt; payload = payload; emits = emits-so (Ok tt) d })
+  emit-so (Err wanting) copy d b = inr (record { answer = Err wanting; payload = payload; emits = emits-so (Err wanting) d })
+
+-- ---- a frame is handed over
+
+pub deliver-refused : (old new : PairState) (n i : ℕ) (error : PairError) → FailsToFind old.sent n i error → new ≡ old → Delivers old n i (Err error) new
+deliver-refused old new n i refusals.NoSuchPayload h e = (h, e)
+deliver-refused old new n i refusals.NoSuchFrame h e = record { payload = record { sent = h.whole; is = h.is; here = h.here }; why = h.why; is = e }
+deliver-refused old new n i refusals.OutOfMemory h e = inl (record { sent = h.whole; is = h.is; here = h.here }, e)
+deliver-refused old new n i _ h e = absurd h
+
+module _ (old mid new : PairState) (n i : ℕ) (h : HandedFrame) (f : FindsFrame old.sent n i h) where
+  at_writer : (P : EndState → EndState → Type 0) → OnEnd P old (peer h.writer) mid → OnEnd P old (peer f.whole.writer) mid
+  at_writer P d = let Q : End → Type 0 = λ w. OnEnd P old (peer w) mid in subst Q f.writer d
+
+  -- what was handed over, whatever the answer
+  handed : (answer : Result ShouldTransmit ReceiveError) → OnEnd (EndTakesFrame h.frame h.len answer) old (peer h.writer) mid → SentAfter old.sent n f.whole i answer new.sent → new ≡ with_sent mid new.sent
+      → HandsOver old n i (received_reply answer) new
+  handed answer d s e =
+      let o = at_writer (EndTakesFrame h.frame h.len answer) d in record {
+        payload = record { sent = f.whole; is = f.is; here = f.here };
+        frame = h.frame;
+        at = f.at;
+        answer = answer;
+        end = o.end;
+        receives = o.does.receives;
+        accounts = subst (λ n. AccountsFrame (the_end old (peer f.whole.writer)).streams h.frame n answer o.end.streams) f.length_is o.does.accounts;
+        reply_is = refl;
+        sent = s;
+        is = e ∙ ap (λ k. with_sent k new.sent) o.is;
+      }
+
+  -- the marked payload is the one that was found
+  marked-so : (transmit : ShouldTransmit) → MarksAt old.sent n i new.sent → SentAfter old.sent n f.whole i (Ok transmit) new.sent
+  marked-so transmit m =
+      let w : m.whole ≡ f.whole = some_is m.whole f.whole (sym m.is ∙ f.is) in
+      let P : Sent → Type 0 = λ x. IsMarked x.text i m.text in
+      let Q : Sent → Type 0 = λ x. new.sent ≡ slice_set old.sent n (record x { text = m.text }) in
+      (m.text, subst P w m.marked, subst Q w m.new_is)
+
+  pub deliver-so : (answer : Result ShouldTransmit ReceiveError) → OnEnd (EndTakesFrame h.frame h.len answer) old (peer h.writer) mid → MarksIf answer old.sent n i new.sent → new ≡ with_sent mid new.sent
+      → Delivers old n i (received_reply answer) new
+  deliver-so (Ok transmit) d m e = handed (Ok transmit) d (marked-so transmit m) e
+  deliver-so (Err (receive_error.Transport error)) d m e = handed (Err (receive_error.Transport error)) d m e
+  deliver-so (Err receive_error.CompactionMemory) d m e = handed (Err receive_error.CompactionMemory) d m e
+  deliver-so (Err receive_error.OutOfMemory) d m e = inr (handed (Err receive_error.OutOfMemory) d m e)
+
+-- ---- what is reported of a payload
+
+module _ (kind : Report) (At : EndState → SentView → Result (Unit {0}) SentView → EndState → Type 0) where
+  pub report-refused : (old new : PairState) (n : ℕ) (error : PairError) → FailsToTake old.sent n kind error → new ≡ old → SettlesPayload kind At old n (Err error) new
+  report-refused old new n refusals.NoSuchPayload h e = (h, e)
+  report-refused old new n refusals.AlreadySettled h e = record { payload = record { sent = h.whole; is = h.is; here = h.here }; why = h.why; is = e }
+  report-refused old new n refusals.NotAccepted h e = record { payload = record { sent = h.whole; is = h.is; here = h.here }; why = h.why; is = e }
+  report-refused old new n _ h e = absurd h.why
+
+  module _ (old taken mid new : PairState) (n : ℕ) (writer : End) (rest : SentPayload) (t : TakesRestAt old.sent n kind writer rest taken.sent) (answer : Result (Unit {0}) SentPayload) where
+    -- what the payload is behind the report
+    sents_so : (a : Result (Unit {0}) SentPayload) → KeepsBack taken.sent n kind a new.sent → new.sent ≡ slice_set old.sent n (record t.whole { unsettled = unsettled_after kind t.whole.unsettled a })
+    sents_so (Ok done) k = k ∙ t.new_is ∙ ap (slice_set old.sent n) t.takes.left
+    sents_so (Err back) k =
+        let there : slice_get taken.sent n ≡ Some t.taken = ap (λ l. slice_get l n) t.new_is ∙ slice_get-set_same old.sent n t.whole t.taken t.is in
+        k t.taken there ∙ ap (λ l. slice_set l n (record t.taken { unsettled = record { begun = Some kind; rest = Some back } })) t.new_is
+        ∙ slice_set-twice old.sent n t.taken (record t.taken { unsettled = record { begun = Some kind; rest = Some back } })
+        ∙ ap (λ (s : Sent). slice_set old.sent n (record s { unsettled = record { begun = Some kind; rest = Some back } })) t.takes.left
+
+    reported : OnEnd (λ e f. At e (sent_view rest) (report_view answer) f) taken writer mid → taken ≡ with_sent old taken.sent → KeepsBack taken.sent n kind answer new.sent → new ≡ with_sent mid new.sent → Reports kind At old n (report_reply answer) new
+    reported d e k is =
+        let P : End → Type 0 = λ w. OnEnd (λ x y. At x (sent_view rest) (report_view answer) y) taken w mid in
+        let o = subst P t.writer_is d in
+        let Q : EndState → Type 0 = λ x. At x (sent_view rest) (report_view answer) o.end in
+        record {
+          payload = record { sent = t.whole; is = t.is; here = t.here };
+          may = t.takes.may;
+          serves = t.takes.serves;
+          rest = rest;
+          rest_is = t.takes.rest_is;
+          answer = answer;
+          end = o.end;
+          does = subst Q (ap (λ (v : PairState). the_end v t.whole.writer) e ∙ end_of t.whole.writer) o.does;
+          reply_is = refl;
+          is = is ∙ ap (with_sent mid) (sents_so answer k) ∙ ap (λ (v : PairState). with_sent v behind) (o.is ∙ ap (λ (v : PairState). with_end v t.whole.writer o.end) e) ∙ sent_again t.whole.writer o.end;
+        }
+      where
+        behind : List Sent
+        behind = slice_set old.sent n (record t.whole { unsettled = unsettled_after kind t.whole.unsettled answer })
+
+        end_of : (w : End) → the_end (with_sent old taken.sent) w ≡ the_end old w
+        end_of A = refl
+        end_of B = refl
+
+        sent_again : (w : End) (x : EndState) → with_sent (with_end (with_sent old taken.sent) w x) behind ≡ with_sent (with_end old w x) behind
+        sent_again A x = refl
+        sent_again B x = refl
+
+    pub report-so : OnEnd (λ e f. At e (sent_view rest) (report_view answer) f) taken writer mid → taken ≡ with_sent old taken.sent → KeepsBack taken.sent n kind answer new.sent → new ≡ with_sent mid new.sent → SettlesPayload kind At old n (report_reply answer) new
+    report-so d e k is = settled_by answer (reported d e k is)
+      where
+        settled_by : (a : Result (Unit {0}) SentPayload) → Reports kind At old n (report_reply a) new → SettlesPayload kind At old n (report_reply a) new
+        settled_by (Ok done) x = x
+        settled_by (Err back) x = x
+
+-- ---- a pair is made
+
+-- as its configs say
+pub new-so : (a b : Config) (limits : PeerLimits) (v : PairState) → limits ≡ limits_of (made_of Server b)
+    → v ≡ record { a = end_begun (made_of Client a) limits; b = end_begun (made_of Server b) (limits_of (made_of Client a)); sent = []; waits = None }
+    → a.max_remote_uni ≤ 2 ^ 60 → b.max_remote_uni ≤ 2 ^ 60 → a.max_remote_bi ≤ 2 ^ 60 → b.max_remote_bi ≤ 2 ^ 60 → a.receive_window < 2 ^ 62 → b.receive_window < 2 ^ 62 → a.stream_receive_window < 2 ^ 62 → b.stream_receive_window < 2 ^ 62 → PairFrom (at_once a b) [] v
+new-so a b limits v l is uni_a uni_b bi_a bi_b small_a small_b stream_a stream_b = begun (record {
+  is = is ∙ ap (λ k. record { a = end_begun (made_of Client a) k; b = end_begun (made_of Server b) (limits_of (made_of Client a)); sent = []; waits = None }) l;
+  few_uni = (uni_a, uni_b);
+  few_bi = (bi_a, bi_b);
+  small = (small_a, small_b);
+  small_of_stream = (stream_a, stream_b);
+  remembered = λ k e. absurd (none-some k e);
+})
+
+pub new_early-so : (a b : Config) (remembered others : PeerLimits) (v : PairState) → others ≡ limits_of (made_of Server b)
+    → v ≡ record { a = end_begun (made_of Client a) remembered; b = end_begun (made_of Server b) (limits_of (made_of Client a)); sent = []; waits = Some (record { remembered = remembered; others = others }) }
+    → a.max_remote_uni ≤ 2 ^ 60 → b.max_remote_uni ≤ 2 ^ 60 → a.max_remote_bi ≤ 2 ^ 60 → b.max_remote_bi ≤ 2 ^ 60 → a.receive_window < 2 ^ 62 → b.receive_window < 2 ^ 62 → a.stream_receive_window < 2 ^ 62 → b.stream_receive_window < 2 ^ 62 → AreSoundLimits remembered
+    → PairFrom (record { a = a; b = b; early = Some remembered }) [] v
+new_early-so a b remembered others v l is uni_a uni_b bi_a bi_b small_a small_b stream_a stream_b few = begun (record {
+  is = is ∙ ap (λ k. record { a = end_begun (made_of Client a) remembered; b = end_begun (made_of Server b) (limits_of (made_of Client a)); sent = []; waits = Some (record { remembered = remembered; others = k }) }) l;
+  few_uni = (uni_a, uni_b);
+  few_bi = (bi_a, bi_b);
+  small = (small_a, small_b);
+  small_of_stream = (stream_a, stream_b);
+  remembered = λ k e. subst AreSoundLimits (same_Some remembered k e) few;
+})
