@@ -232,13 +232,35 @@ fn take_again(
     }
 }
 
+// Takes steps of which none may find too little memory.
+fn take_all(
+    rt: &impl Abort,
+    alloc: Global,
+    buffer: &mut SendBuffer,
+    steps: &[Step],
+) -> Result<(), OutOfMemory> {
+    for step in steps {
+        take(rt, alloc, buffer, *step)?;
+    }
+    Ok(())
+}
+
+fn take_all_again(
+    rt: &impl Abort,
+    alloc: Global,
+    buffer: &mut SendBuffer,
+    steps: &[Step],
+) -> Result<(), OutOfMemory> {
+    for step in steps {
+        take_again(rt, alloc, buffer, *step)?;
+    }
+    Ok(())
+}
+
 // Takes steps on a buffer to which nothing was written.
 fn run(rt: &impl Abort, alloc: Global, steps: &[Step]) -> Result<(), OutOfMemory> {
     let mut buffer = empty(alloc);
-    for step in steps {
-        take_again(rt, alloc, &mut buffer, *step)?;
-    }
-    Ok(())
+    take_all_again(rt, alloc, &mut buffer, steps)
 }
 
 // Chunks of these texts.

@@ -80,8 +80,24 @@ fn write_chunks(
     )
 }
 
-// What a write of these chunks takes under a stream limit: the second one, and of the third one a byte or all. The next
-// write is blocked.
+// What a write of these chunks takes: the second one, and of the third one a byte or all. The next write is blocked.
+fn takes_on(
+    rt: &impl Abort,
+    alloc: Global,
+    send: &mut Send,
+    chunks: &mut [Bytes],
+    wanted: Written,
+) -> Result<(), WriteError> {
+    same(rt, write_chunks(rt, alloc, send, chunks, 1000)?, wanted);
+    has_just(rt, send, wanted.bytes as u64);
+    keeps(rt, send, 0..10, b"Hello ");
+    keeps(rt, send, 6..7, b"W");
+    let outcome = write_chunks(rt, alloc, send, chunks, 1000);
+    is_refused(rt, outcome, WriteError::Blocked);
+    Ok(())
+}
+
+// The same on a half with a stream limit.
 fn takes(
     rt: &impl Abort,
     alloc: Global,
@@ -90,17 +106,7 @@ fn takes(
     wanted: Written,
 ) -> Result<(), WriteError> {
     let mut send = half(alloc, limit);
-    same(
-        rt,
-        write_chunks(rt, alloc, &mut send, chunks, 1000)?,
-        wanted,
-    );
-    has_just(rt, &send, u64::from(limit));
-    keeps(rt, &send, 0..10, b"Hello ");
-    keeps(rt, &send, 6..7, b"W");
-    let outcome = write_chunks(rt, alloc, &mut send, chunks, 1000);
-    is_refused(rt, outcome, WriteError::Blocked);
-    Ok(())
+    takes_on(rt, alloc, &mut send, chunks, wanted)
 }
 
 // The same of chunks of these texts, and what is left of them.
@@ -162,20 +168,20 @@ fn shows(
 #[test]
 fn error_texts(rt: HostRuntime) -> Result<(), Fail> {
     let code = VarInt::from(9);
-    for (error, text) in [
+    for (error, text) in &[
         (WriteError::Blocked, "unable to accept further writes"),
         (WriteError::Stopped(code), "stopped by peer: code 9"),
         (WriteError::ClosedStream, "closed stream"),
         (WriteError::OutOfMemory, "out of memory"),
     ] {
-        shows(&rt, rt.alloc(), &error, text)?;
+        shows(&rt, rt.alloc(), error, text)?;
     }
-    for (error, text) in [
+    for (error, text) in &[
         (FinishError::Stopped(code), "stopped by peer: code 9"),
         (FinishError::ClosedStream, "closed stream"),
         (FinishError::OutOfMemory, "out of memory"),
     ] {
-        shows(&rt, rt.alloc(), &error, text)?;
+        shows(&rt, rt.alloc(), error, text)?;
     }
     shows(&rt, rt.alloc(), &ClosedStream, "closed stream")?;
     Ok(())

@@ -39,35 +39,42 @@ fn is_shown<T: Debug>(
     Ok(())
 }
 
-#[test]
-fn errors_and_states_are_shown_by_their_cases(rt: HostRuntime) -> Result<(), Fail> {
+fn errors_are_shown(rt: &impl Abort, alloc: Global) -> Result<(), OutOfMemory> {
     let seven = VarInt::from(7);
-    for (error, text) in [
+    for (error, text) in &[
         (WriteError::Blocked, "Blocked"),
         (WriteError::Stopped(seven), "Stopped(7)"),
         (WriteError::ClosedStream, "ClosedStream"),
         (WriteError::OutOfMemory, "OutOfMemory"),
     ] {
-        is_shown(&rt, rt.alloc(), &error, text)?;
+        is_shown(rt, alloc, error, text)?;
     }
-    for (error, text) in [
+    for (error, text) in &[
         (FinishError::Stopped(seven), "Stopped(7)"),
         (FinishError::ClosedStream, "ClosedStream"),
         (FinishError::OutOfMemory, "OutOfMemory"),
     ] {
-        is_shown(&rt, rt.alloc(), &error, text)?;
+        is_shown(rt, alloc, error, text)?;
     }
-    for (state, text) in [
-        (SendState::Ready, "Ready"),
-        (
-            SendState::DataSent {
-                finish_acked: false,
-            },
-            "DataSent { finish_acked: false }",
-        ),
-        (SendState::ResetSent, "ResetSent"),
-    ] {
-        is_shown(&rt, rt.alloc(), &state, text)?;
+    Ok(())
+}
+
+const STATES: [(SendState, &str); 3] = [
+    (SendState::Ready, "Ready"),
+    (
+        SendState::DataSent {
+            finish_acked: false,
+        },
+        "DataSent { finish_acked: false }",
+    ),
+    (SendState::ResetSent, "ResetSent"),
+];
+
+#[test]
+fn errors_and_states_are_shown_by_their_cases(rt: HostRuntime) -> Result<(), Fail> {
+    errors_are_shown(&rt, rt.alloc())?;
+    for (state, text) in &STATES {
+        is_shown(&rt, rt.alloc(), state, text)?;
     }
     let written = Written {
         bytes: 5,

@@ -1,5 +1,5 @@
 // With ample memory no size is refused.
-use super::{Step, ack, empty, lose, next, poll, same, take, write};
+use super::{Step, ack, empty, lose, next, poll, same, take, take_all, write};
 use quic_sending::SendBuffer;
 use quic_values::OutOfMemory;
 use std::alloc::Global;
@@ -23,19 +23,28 @@ fn reserve_both(
     take(rt, alloc, buffer, Step::Reserve(pieces.saturating_add(1)))
 }
 
-// With memory enough no write is refused, nor the room that is asked for on both sides of each power of two.
+const ALL_PIECES: [Step; 2] = [Step::Buffered(SIZES - 1), Step::Get(SIZES - 2, SIZES, b"a")];
+
+// Writes a piece after another, and asks for room on both sides of each power of two.
+fn write_pieces(
+    rt: &impl Abort,
+    alloc: Global,
+    buffer: &mut SendBuffer,
+) -> Result<(), OutOfMemory> {
+    for pieces in 1..SIZES {
+        take(rt, alloc, buffer, Step::Write(b"a"))?;
+        if pieces.is_power_of_two() {
+            reserve_both(rt, alloc, buffer, pieces as usize)?;
+        }
+    }
+    take_all(rt, alloc, buffer, &ALL_PIECES)
+}
+
+// With memory enough no write is refused, nor the room that is asked for.
 #[test]
 fn ample_memory_suffices_for_many_pieces(rt: HostRuntime) -> Result<(), Fail> {
     let mut buffer = empty(rt.alloc());
-    for pieces in 1..SIZES {
-        take(&rt, rt.alloc(), &mut buffer, Step::Write(b"a"))?;
-        if pieces.is_power_of_two() {
-            reserve_both(&rt, rt.alloc(), &mut buffer, pieces as usize)?;
-        }
-    }
-    for step in [Step::Buffered(SIZES - 1), Step::Get(SIZES - 2, SIZES, b"a")] {
-        take(&rt, rt.alloc(), &mut buffer, step)?;
-    }
+    write_pieces(&rt, rt.alloc(), &mut buffer)?;
     Ok(())
 }
 
@@ -59,21 +68,31 @@ fn exchange_all(rt: &impl Abort, buffer: &mut SendBuffer) -> Result<(), OutOfMem
     Ok(())
 }
 
+const BYTES: &[u8] = &[0; 2 * SIZES as usize];
+
+const ALL_ACKED: [Step; 3] = [
+    Step::Ack(0, 2 * SIZES),
+    Step::FullyAcked(true),
+    Step::Buffered(0),
+];
+
+// Of all bytes, which are sent, each second one is acknowledged and each other one lost, and then all are acknowledged.
+fn exchange_ranges(
+    rt: &impl Abort,
+    alloc: Global,
+    buffer: &mut SendBuffer,
+) -> Result<(), OutOfMemory> {
+    write(rt, alloc, buffer, BYTES)?;
+    same(rt, poll(rt, buffer, 1 << 20), (0..2 * SIZES, true));
+    exchange_all(rt, buffer)?;
+    same(rt, next(rt, buffer, 1 << 20), (0..1, true));
+    take_all(rt, alloc, buffer, &ALL_ACKED)
+}
+
 // With memory enough no acknowledgement and no loss is refused.
 #[test]
 fn ample_memory_suffices_for_many_ranges(rt: HostRuntime) -> Result<(), Fail> {
     let mut buffer = empty(rt.alloc());
-    let bytes = vec![in rt.alloc(); 0u8; 2 * SIZES as usize]?;
-    write(&rt, rt.alloc(), &mut buffer, &bytes)?;
-    same(&rt, poll(&rt, &mut buffer, 1 << 20), (0..2 * SIZES, true));
-    exchange_all(&rt, &mut buffer)?;
-    same(&rt, next(&rt, &buffer, 1 << 20), (0..1, true));
-    for step in [
-        Step::Ack(0, 2 * SIZES),
-        Step::FullyAcked(true),
-        Step::Buffered(0),
-    ] {
-        take(&rt, rt.alloc(), &mut buffer, step)?;
-    }
+    exchange_ranges(&rt, rt.alloc(), &mut buffer)?;
     Ok(())
 }

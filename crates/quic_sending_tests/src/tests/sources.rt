@@ -84,11 +84,7 @@ fn bytes_array(rt: HostRuntime) -> Result<(), Fail> {
     for limit in 0..FULL.len() + 1 {
         let mut all = chunks_of(rt.alloc(), &texts)?;
         let taken = take_chunks(rt.alloc(), all.as_mut_slice(), limit)?;
-        same(
-            &rt,
-            taken.bytes.as_slice(),
-            FULL.get(..limit).ok_or("long")?,
-        );
+        same(&rt, Some(taken.bytes.as_slice()), FULL.get(..limit));
         if limit == FULL.len() {
             same(&rt, (taken.pieces, taken.ended), (8, 11));
         } else if limit > FULL.len() - 21 {
@@ -98,16 +94,15 @@ fn bytes_array(rt: HostRuntime) -> Result<(), Fail> {
     Ok(())
 }
 
+fn take_slice(alloc: Global, limit: usize) -> Result<Taken, OutOfMemory> {
+    take_out(alloc, &mut ByteSlice::from_slice(alloc, FULL), limit)
+}
+
 #[test]
 fn byte_slice(rt: HostRuntime) -> Result<(), Fail> {
     for limit in 0..FULL.len() + 1 {
-        let mut slice = ByteSlice::from_slice(rt.alloc(), FULL);
-        let taken = take_out(rt.alloc(), &mut slice, limit)?;
-        same(
-            &rt,
-            taken.bytes.as_slice(),
-            FULL.get(..limit).ok_or("long")?,
-        );
+        let taken = take_slice(rt.alloc(), limit)?;
+        same(&rt, Some(taken.bytes.as_slice()), FULL.get(..limit));
         same(&rt, taken.pieces, usize::from(limit != 0));
         same(&rt, taken.ended, usize::from(limit == FULL.len()));
     }
