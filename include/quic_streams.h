@@ -24,10 +24,10 @@
  *
  * POINTERS. A handle is as the library left it. Buffers are valid for their
  * length and overlap neither each other nor the handle. Buffers that are read
- * are initialised, and so are buffers that are written, and all that pointers
- * to single values point to. With length 0 a buffer may be NULL; other pointers
- * may not. The library keeps no pointer of the host's after a call, and hands
- * out one of its own only in qs_emit_lent.
+ * are initialised, and so is all that pointers to single values point to.
+ * Buffers that are only written need not be. With length 0 a buffer may be
+ * NULL; other pointers may not. The library keeps no pointer of the host's
+ * after a call, and hands out one of its own only in qs_emit_lent.
  *
  * THREADS. A call on a handle must have ended before the next call on the same
  * handle begins. Handles share nothing: those of different connections may be

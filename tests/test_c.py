@@ -13,6 +13,7 @@ ROOT = os.path.dirname(os.path.dirname(os.path.abspath(__file__)))
 LIB = os.environ.get("QUIC_STREAMS_LIB_DIR") or os.path.join(ROOT, "build", "lib")
 ARCHIVE = os.path.join(LIB, "libquic_streams.a")
 WARNINGS = ["-Wall", "-Wextra", "-Wpedantic", "-Werror"]
+WRAPS = [f"-Wl,--wrap={name}" for name in ("malloc", "realloc", "free")]
 PAYLOADS = os.environ.get("QUIC_STREAMS_PAYLOADS", "1000000")
 
 
@@ -79,8 +80,10 @@ class Programs(Built):
         self.assertIn("100 seeds", run(self.build("two_ends"), "100"))
 
     def test_each_allocation_refused(self):
-        wraps = [f"-Wl,--wrap={name}" for name in ("malloc", "realloc", "free")]
-        self.assertIn("allocations", run(self.build("failing", *wraps)))
+        self.assertIn("allocations", run(self.build("failing", *WRAPS)))
+
+    def test_memory_is_used_again(self):
+        self.assertIn("5 tests", run(self.build("memory", *WRAPS)))
 
     def test_hostile_payloads(self):
         self.assertIn(f"{PAYLOADS} payloads", run(self.build("hostile"), PAYLOADS))

@@ -31,8 +31,6 @@ GIVES_BACK = {"put_new", "put_first", "put_last", "put_tidy", "join_last", "push
 
 # Places that stay as they are, each of them once: (file, line of text), below the reason.
 ALLOWED = {
-    # The answer of a copy that ran out of memory stands in a struct.
-    ("crates/quic_session/src/receiving.rt", "answer: Err(PayloadError::OutOfMemory),"),
     # A report of a payload hands the payload back where memory ran out, and only there.
     ("crates/quic_session/src/settling.rt", "SettleError::OutOfMemory"),
     # A report of a payload hands the payload back where memory ran out, and only there.

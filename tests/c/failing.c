@@ -1,40 +1,8 @@
 /* Each allocation of a session of two ends is refused in turn: the call answers
  * QS_ERR_NOMEM, can be made again, and all is as if it had been made once. No
- * memory is lost. Linked with -Wl,--wrap=malloc,--wrap=realloc,--wrap=free. */
+ * memory is lost. Linked as wrapped.h says. */
 #include "check.h"
-
-void *__real_malloc(size_t size);
-void *__real_realloc(void *at, size_t size);
-void __real_free(void *at);
-void *__wrap_malloc(size_t size);
-void *__wrap_realloc(void *at, size_t size);
-void __wrap_free(void *at);
-
-static long countdown, asked, held;
-
-static int refuses(void) {
-  asked++;
-  return countdown > 0 && --countdown == 0;
-}
-
-void *__wrap_malloc(size_t size) {
-  if (refuses())
-    return NULL;
-  held++;
-  return __real_malloc(size);
-}
-
-void *__wrap_realloc(void *at, size_t size) {
-  if (refuses())
-    return NULL;
-  held += at == NULL;
-  return __real_realloc(at, size);
-}
-
-void __wrap_free(void *at) {
-  held -= at != NULL;
-  __real_free(at);
-}
+#include "wrapped.h"
 
 static long refused;
 

@@ -2,6 +2,7 @@ use crate::errors::*;
 use crate::state::StreamsState;
 use crate::sys;
 use crate::values::StreamId;
+use std::mem::MaybeUninit;
 
 // The result of a call on a stream.
 fn answered(answer: i32) -> Result<(), StreamError> {
@@ -142,8 +143,7 @@ impl<'a> RecvStream<'a> {
     ///
     /// Where `out` is empty.
     pub fn read(&mut self, out: &mut [u8]) -> Result<Option<usize>, ReadError> {
-        assert!(!out.is_empty(), "a read needs room");
-        Ok(self.read_at(out, true)?.map(|(count, _)| count))
+        Ok(self.read_into(out, true)?.map(|(count, _)| count))
     }
 
     /// Reads the next bytes into `out`, which may not be empty, in order or as they came. Returns how many, at least one, and
@@ -158,8 +158,61 @@ impl<'a> RecvStream<'a> {
         out: &mut [u8],
         ordered: bool,
     ) -> Result<Option<(usize, u64)>, ReadError> {
+        // SAFETY: these are bytes as well, and the read stores nothing but bytes.
+        let out = unsafe { &mut *(out as *mut [u8] as *mut [MaybeUninit<u8>]) };
+        self.read_into_uninit(out, ordered)
+    }
+
+    /// Reads as [`RecvStream::read_into`] does, into memory that need not be initialised. As many bytes as it returns, from the
+    /// first of `out` on, are initialised then. The others stay as they were.
+    ///
+    /// ```
+    /// # use quic_streams::{Config, Dir, Emit, Limits, Side, StreamsState};
+    /// # fn main() -> Result<(), Box<dyn std::error::Error>> {
+    /// # let config = Config::default();
+    /// # let mut client = StreamsState::new(Side::Client, &config)?;
+    /// # let mut server = StreamsState::new(Side::Server, &config)?;
+    /// # client.set_params(&Limits::of(&config))?;
+    /// # let id = client.open(Dir::Uni)?.unwrap();
+    /// # client.send_stream(id).write(b"hello")?;
+    /// # let mut packet = [0; 100];
+    /// # let payload = client.emit(&mut packet, Emit::default())?.unwrap();
+    /// # server.receive(&packet[..payload.len])?;
+    /// # server.accept(Dir::Uni);
+    /// let mut text = Vec::with_capacity(4096);
+    /// let read = server.recv_stream(id).read_into_uninit(text.spare_capacity_mut(), true)?;
+    /// let (count, _) = read.expect("bytes came");
+    /// // SAFETY: so many bytes are initialised, from the first on.
+    /// unsafe { text.set_len(count) };
+    /// assert_eq!(text, b"hello");
+    /// # Ok(())
+    /// # }
+    /// ```
+    ///
+    /// # Panics
+    ///
+    /// Where `out` is empty.
+    pub fn read_into_uninit(
+        &mut self,
+        out: &mut [MaybeUninit<u8>],
+        ordered: bool,
+    ) -> Result<Option<(usize, u64)>, ReadError> {
         assert!(!out.is_empty(), "a read needs room");
-        self.read_at(out, ordered)
+        let (mut count, mut offset, mut code) = (0, 0, 0);
+        let (conn, id) = (&mut self.state.conn, self.id.0);
+        let (at, cap) = (out.as_mut_ptr().cast(), out.len());
+        let answer = unsafe {
+            if ordered {
+                sys::qs_stream_read(conn, id, at, cap, &mut count, &mut offset, &mut code)
+            } else {
+                sys::qs_stream_read_unordered(conn, id, at, cap, &mut count, &mut offset, &mut code)
+            }
+        };
+        match answer {
+            sys::OK => Ok(Some((count, offset))),
+            sys::END => Ok(None),
+            answer => Err(read_error(answer, code)),
+        }
     }
 
     /// Reads the next bytes in order into `out`, which may not be empty, those of several frames in one call. Returns with
@@ -259,29 +312,6 @@ impl<'a> RecvStream<'a> {
             answer => Err(answered(answer).err().unwrap_or(StreamError::ClosedStream)),
         }
     }
-
-    // How many bytes were read, and the offset of the first.
-    fn read_at(
-        &mut self,
-        out: &mut [u8],
-        ordered: bool,
-    ) -> Result<Option<(usize, u64)>, ReadError> {
-        let (mut count, mut offset, mut code) = (0, 0, 0);
-        let (conn, id) = (&mut self.state.conn, self.id.0);
-        let (at, cap) = (out.as_mut_ptr(), out.len());
-        let answer = unsafe {
-            if ordered {
-                sys::qs_stream_read(conn, id, at, cap, &mut count, &mut offset, &mut code)
-            } else {
-                sys::qs_stream_read_unordered(conn, id, at, cap, &mut count, &mut offset, &mut code)
-            }
-        };
-        match answer {
-            sys::OK => Ok(Some((count, offset))),
-            sys::END => Ok(None),
-            answer => Err(read_error(answer, code)),
-        }
-    }
 }
 
 /// The chunks of a stream.
@@ -296,13 +326,14 @@ impl Chunks<'_, '_> {
     /// the end of the stream.
     #[allow(clippy::should_implement_trait)]
     pub fn next(&mut self, max_length: usize) -> Result<Option<Chunk>, ReadError> {
-        let mut bytes = vec![0; max_length.clamp(1, 1 << 16)];
-        match self.stream.read_at(&mut bytes, self.ordered)? {
-            None => Ok(None),
-            Some((count, offset)) => {
-                bytes.truncate(count);
-                Ok(Some(Chunk { offset, bytes }))
-            }
-        }
+        let most = max_length.clamp(1, 1 << 16);
+        let mut bytes = Vec::with_capacity(most);
+        let room = &mut bytes.spare_capacity_mut()[..most];
+        let Some((count, offset)) = self.stream.read_into_uninit(room, self.ordered)? else {
+            return Ok(None);
+        };
+        // SAFETY: the read initialised so many bytes, from the first on.
+        unsafe { bytes.set_len(count) };
+        Ok(Some(Chunk { offset, bytes }))
     }
 }

@@ -5,6 +5,7 @@ mod one_end;
 use one_end::steps::take_in;
 use one_end::*;
 use quic_streams::{Dir, ReadError, StreamId};
+use std::mem::MaybeUninit;
 
 #[test]
 fn as_many_chunks_are_given_as_are_asked_for() -> Result<()> {
@@ -40,5 +41,28 @@ fn a_read_gives_credit() -> Result<()> {
     assert_eq!(control_frames(&payload), [[MAX_STREAM_DATA, 3, 9]]);
     let info = end.info();
     assert_eq!((info.local_max_data, info.data_received), (WINDOW + 1, 1));
+    Ok(())
+}
+
+// The bytes behind those that were read stay as they were, in order and as they come.
+#[test]
+fn a_read_initialises_as_many_bytes_as_it_says() -> Result<()> {
+    let mut end = client(1, WINDOW, WINDOW)?;
+    let mut offset = 0;
+    for (size, ordered) in (1..20).map(|size| (size, true)).chain([(9, false)]) {
+        take_in(&mut end, 3, offset, size, false)?;
+        end.accept(Dir::Uni);
+        let mut room = [MaybeUninit::new(255); 32];
+        let mut stream = end.recv_stream(StreamId(3));
+        let read = stream.read_into_uninit(&mut room, ordered)?;
+        assert_eq!(read, Some((size, offset)));
+        // SAFETY: all were initialised above.
+        let bytes = room.map(|byte| unsafe { byte.assume_init() });
+        assert_eq!(bytes[..size], pattern(offset, size), "{size} bytes");
+        assert!(bytes[size..].iter().all(|byte| *byte == 255));
+        let again = stream.read_into_uninit(&mut room, ordered);
+        assert_eq!(again, Err(ReadError::Blocked));
+        offset += size as u64;
+    }
     Ok(())
 }

@@ -341,8 +341,9 @@ impl Session {
         let list = mem::replace(&mut self.chunks, Vec::new(self.alloc));
         let some = self.read_given(id, ordered, out.len(), 1, list)?;
         let read = put_chunk(&some, out);
-        self.chunks = some.chunks;
-        self.chunks.clear();
+        let mut list = some.chunks;
+        self.pieces.put_all(&mut list);
+        self.chunks = list;
         Ok(read)
     }
 }

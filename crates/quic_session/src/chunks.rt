@@ -30,8 +30,9 @@ impl Session {
         let count = put_chunks(&some.chunks, out);
         let offset = offset_of_first(&some.chunks);
         let last = some.last;
-        self.chunks = some.chunks;
-        self.chunks.clear();
+        let mut list = some.chunks;
+        self.pieces.put_all(&mut list);
+        self.chunks = list;
         Ok(ReadInto {
             count,
             offset,

@@ -98,6 +98,14 @@ impl Session {
         }
     }
 
+    /// Takes the bytes of a datagram that is no longer needed, so that their memory is used again.
+    pub fn give_back(&mut self, datagram: Bytes)
+        ensures same { self.new ≡ self.old }
+    {
+        let (piece, _) = datagram.into_parts();
+        self.pieces.put(piece);
+    }
+
     /// The greatest length of a datagram, or `None` where the peer takes none.
     pub fn max_datagram(&self) -> Option<usize>
         ensures { result ≡ self.now.limits.max }

@@ -1,5 +1,9 @@
 //! Memory that is used again.
 
+ghost use Rattle.std.specs.Prelude.{◌≡◌, ◌≤◌, true};
+
+use quic_assembler::Chunk;
+use quic_values::OutOfMemory;
 use quic_wire::Frame;
 use std::alloc::Global;
 use std::marker::Model;
@@ -52,4 +56,106 @@ impl FrameMemory {
             self.list = list;
         }
     }
+}
+
+// How many pieces of memory are kept at most.
+const MOST_PIECES: usize = 64;
+
+// How many bytes each of them has room for, at least and at most. It is quick to take a smaller one anew.
+const LEAST_ROOM: usize = 512;
+
+const MOST_ROOM: usize = 2048;
+
+/// The memory of bytes that were read, which is used again for those that come: at most 64 pieces of at most 2,048 bytes.
+/// Contracts see nothing of it, but that it is bounded.
+#[derive(Drop)]
+pub(crate) struct PieceMemory {
+    list: Vec<Vec<u8>>,
+}
+
+impl Model for PieceMemory {
+    ghost use Rattle.std.specs.Prelude.{All, ◌≤◌, vec_capacity, vec_len};
+
+    ghost Value = { Unit {0} };
+
+    ghost view = { λ m. tt };
+
+    ghost invariant = { λ m. (vec_len m.list ≤ 64) × All (λ piece. vec_capacity piece ≤ 2048) m.list.items };
+}
+
+impl PieceMemory {
+    ghost use Rattle.std.specs.Prelude.{◌≡◌, IfOk};
+
+    // None.
+    pub(crate) fn new(alloc: Global) -> Self
+        ensures { result ≡ tt }
+    {
+        PieceMemory {
+            list: Vec::new(alloc),
+        }
+    }
+
+    // A copy of bytes, in memory that was used before, if some is fit for them.
+    pub(crate) fn copy_of(&mut self, alloc: Global, bytes: &[u8]) -> Result<Vec<u8>, OutOfMemory>
+        ensures copy { IfOk result (λ copy. copy.items ≡ bytes.now) }
+        ensures same { self.new ≡ self.old }
+    {
+        let Some(mut piece) = self.take(bytes.len()) else {
+            return Ok(Vec::from_slice(alloc, bytes)?);
+        };
+        piece.clear();
+        piece.extend_from_slice(bytes)?;
+        Ok(piece)
+    }
+
+    // Takes out the piece that was put in last, or else the first one, if it is fit for so many bytes. A first one that is
+    // not fit goes, so that in time the pieces are those that are fit for what comes.
+    fn take(&mut self, size: usize) -> Option<Vec<u8>>
+        ensures same { self.new ≡ self.old }
+    {
+        if !is_kept(size) {
+            return None;
+        }
+        match self.list.last() {
+            None => return None,
+            Some(last) if is_fit(last.capacity(), size) => return self.list.pop(),
+            Some(_) => {}
+        }
+        let first = self.list.swap_remove(0);
+        if is_fit(first.capacity(), size) {
+            return Some(first);
+        }
+        None
+    }
+
+    // Puts a piece in, if there is room for it and it is one to be kept. Another goes.
+    pub(crate) fn put(&mut self, piece: Vec<u8>)
+        ensures same { self.new ≡ self.old }
+    {
+        if self.list.len() < MOST_PIECES && is_kept(piece.capacity()) {
+            let _ = self.list.push(piece);
+        }
+    }
+
+    // Puts the memory of chunks in. The list has none of them any more.
+    pub(crate) fn put_all(&mut self, chunks: &mut Vec<Chunk>)
+        ensures same { self.new ≡ self.old }
+    {
+        for chunk in chunks.drain(..) {
+            let (piece, _) = chunk.bytes.into_parts();
+            self.put(piece);
+        }
+    }
+}
+
+// Whether a piece of so many bytes is one to be kept.
+fn is_kept(room: usize) -> bool
+    ensures { result ≡ true → room ≤ 2048 }
+{
+    LEAST_ROOM <= room && room <= MOST_ROOM
+}
+
+// Whether memory with so much room is fit for so many bytes: they have room in it, and leave little of it.
+fn is_fit(room: usize, size: usize) -> bool {
+    size <= room && room / 6 <= size / 5
 }

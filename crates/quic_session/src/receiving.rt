@@ -1,6 +1,6 @@
 //! Frames and payloads of the peer that come to a session.
 
-ghost use Rattle.std.specs.Prelude.{List, ◌≡◌, ◌≤◌, ◌∷◌, ◌&&◌, true, false, not, max, All, OnOk, IfErr};
+ghost use Rattle.std.specs.Prelude.{List, ◌≡◌, ◌≤◌, ◌∷◌, ◌&&◌, true, false, not, max, All, OnOk, IfOk, IfErr};
 ghost use Rattle.quic_wire.specs.Codes.{STREAM_STATE_ERROR};
 ghost use Rattle.quic_wire.specs.Frames.{IsFrameWithin};
 ghost use Rattle.quic_history.specs.World.{Made};
@@ -11,7 +11,7 @@ ghost use Rattle.quic_session.specs.Receiving.{KeepsDatagram, ReceivesFrame, Rec
 
 use crate::session::Session;
 use quic_receiving::ShouldTransmit;
-use quic_values::Dir;
+use quic_values::{Bytes, Dir, OutOfMemory};
 use quic_wire::frame::{Datagram, StopSending};
 use quic_wire::{DecodeError, Frame, ReceiveError, TransportError, decode_owned_into};
 use thiserror::Error;
@@ -47,7 +47,7 @@ impl Session {
         ensures receives { ReceivesPayload self.old payload.now first result self.new }
         ensures others { ReceivesOnly self.old self.new }
     {
-        let Ok(bytes) = Vec::from_slice(self.alloc, payload) else {
+        let Ok(bytes) = self.pieces.copy_of(self.alloc, payload) else {
             return Received {
                 next: first,
                 answer: Err(PayloadError::OutOfMemory),
@@ -65,6 +65,15 @@ impl Session {
                 answer: Err(PayloadError::OutOfMemory),
             },
         }
+    }
+
+    /// A copy of the data of a frame, as for [`Session::receive_frame`]. It takes memory that was used before, where there is
+    /// some.
+    pub fn copy_of(&mut self, data: &[u8]) -> Result<Bytes, OutOfMemory>
+        ensures copy { IfOk result (λ copy. copy ≡ data.now) }
+        ensures same { self.new ≡ self.old }
+    {
+        Ok(Bytes::from(self.pieces.copy_of(self.alloc, data)?))
     }
 
     // Takes the frames of a payload, from a place on.

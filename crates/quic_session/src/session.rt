@@ -14,7 +14,7 @@ ghost use Rattle.quic_streams.specs.Waiting.{TellsEmpty};
 ghost use Rattle.quic_session.specs.Sessions.{end_of, beside_of, datagrams_view, no_datagrams};
 ghost use Rattle.quic_session.specs.Tokens.{unsettled};
 
-use crate::memory::FrameMemory;
+use crate::memory::{FrameMemory, PieceMemory};
 use crate::unsettled::Unsettled;
 use quic_assembler::Chunk;
 use quic_datagrams::{DatagramLimits, DatagramState};
@@ -57,11 +57,12 @@ pub struct Session {
     pub(crate) told_received: bool,
     pub(crate) told_room: bool,
     pub(crate) unsettled: Unsettled,
-    // The memory of the last payload that was written, of the last read, and of the frames of the last payload that came,
-    // which is used again.
+    // The memory of the last payload that was written, of the list of chunks of the last read, of the frames of the last
+    // payload that came, and of bytes that were read. It is used again.
     pub(crate) bytes: Vec<u8>,
     pub(crate) chunks: Vec<Chunk>,
     pub(crate) frames: FrameMemory,
+    pub(crate) pieces: PieceMemory,
     pub(crate) alloc: Global,
 }
 
@@ -100,6 +101,7 @@ impl Session {
             bytes: Vec::new(alloc),
             chunks: Vec::new(alloc),
             frames: FrameMemory::new(alloc),
+            pieces: PieceMemory::new(alloc),
             alloc,
         })
     }

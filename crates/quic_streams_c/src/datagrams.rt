@@ -85,6 +85,7 @@ fn receive(session: &mut Session, out: &mut [u8], count: &mut usize) -> i32
     };
     let length = bytes.len().min(out.len());
     out[..length].copy_from_slice(&bytes.as_slice()[..length]);
+    session.give_back(bytes);
     OK
 }
 

@@ -11,7 +11,6 @@ use crate::handle::{Handle, holding, take_out};
 use quic_receiving::ShouldTransmit;
 use quic_session::Session;
 use quic_session::receiving::PayloadError;
-use quic_values::Bytes;
 use quic_wire::frame::{Datagram, ResetStream, StopSending, Stream};
 use quic_wire::{Frame, ReceiveError, TransportError};
 use std::alloc::Global;
@@ -135,16 +134,7 @@ pub extern "C" fn qs_on_stream(
     match take_out(alloc, handle) {
         None => CLOSED,
         Some(mut session) => {
-            let code = hand_stream(
-                alloc,
-                &mut session,
-                id,
-                offset,
-                bytes,
-                fin,
-                payload_len,
-                error,
-            );
+            let code = hand_stream(&mut session, id, offset, bytes, fin, payload_len, error);
             *handle = holding(session);
             code
         }
@@ -153,7 +143,6 @@ pub extern "C" fn qs_on_stream(
 
 // The same, of a session.
 fn hand_stream(
-    alloc: Global,
     session: &mut Session,
     id: u64,
     offset: u64,
@@ -170,7 +159,7 @@ fn hand_stream(
     let Some(offset) = small(offset) else {
         return ARGUMENT;
     };
-    let Ok(bytes) = Bytes::copy_from_slice(alloc, bytes) else {
+    let Ok(bytes) = session.copy_of(bytes) else {
         return NO_MEMORY;
     };
     let frame = Frame::Stream(Stream {
@@ -382,7 +371,7 @@ pub extern "C" fn qs_on_datagram(
     match take_out(alloc, handle) {
         None => CLOSED,
         Some(mut session) => {
-            let code = hand_datagram(alloc, &mut session, bytes, error);
+            let code = hand_datagram(&mut session, bytes, error);
             *handle = holding(session);
             code
         }
@@ -390,10 +379,10 @@ pub extern "C" fn qs_on_datagram(
 }
 
 // The same, of a session.
-fn hand_datagram(alloc: Global, session: &mut Session, bytes: &[u8], error: &mut RawError) -> i32
+fn hand_datagram(session: &mut Session, bytes: &[u8], error: &mut RawError) -> i32
     ensures { HandsDatagram session.old bytes.now result session.new error.old error.new }
 {
-    let Ok(bytes) = Bytes::copy_from_slice(alloc, bytes) else {
+    let Ok(bytes) = session.copy_of(bytes) else {
         return NO_MEMORY;
     };
     hand(session, Frame::Datagram(Datagram { bytes }), 0, error)

@@ -6,7 +6,11 @@ use crate::connection::stats::FrameStats;
 use crate::frame;
 use crate::transport_parameters::TransportParameters;
 use crate::{Side, TransportError};
+use bytes::buf::UninitSlice;
+use bytes::BufMut;
 use quic_streams as layer;
+use std::mem::MaybeUninit;
+use std::slice;
 
 /// A receive half that the application may read.
 #[derive(Default)]
@@ -29,7 +33,7 @@ pub struct StreamsState {
     /// Those of them that the application has not accepted.
     ahead: [VecDeque<StreamId>; 2],
     readable: FxHashMap<StreamId, Readable>,
-    /// Where chunks are read to.
+    /// Where chunks are read to. Its memory is used again where none of its chunks is left.
     room: BytesMut,
 }
 
@@ -451,16 +455,19 @@ impl StreamsState {
         ordered: bool,
         max_length: usize,
     ) -> Result<Option<Chunk>, layer::ReadError> {
-        if self.room.len() < LONGEST_CHUNK {
-            self.room = BytesMut::zeroed(ROOM);
+        if self.room.capacity() < LONGEST_CHUNK {
+            self.room.reserve(ROOM);
         }
         self.due.set(None);
-        let length = max_length.min(self.room.len());
         let mut half = self.end.get_mut().recv_stream(layer_id(id));
-        let Some((count, offset)) = half.read_into(&mut self.room[..length], ordered)? else {
+        let room = uninit(self.room.chunk_mut());
+        let length = max_length.min(room.len());
+        let Some((count, offset)) = half.read_into_uninit(&mut room[..length], ordered)? else {
             return Ok(None);
         };
-        let bytes = self.room.split_to(count).freeze();
+        // SAFETY: the read initialised so many bytes, from the first on.
+        unsafe { self.room.advance_mut(count) };
+        let bytes = self.room.split().freeze();
         Ok(Some(Chunk { offset, bytes }))
     }
 
@@ -481,6 +488,12 @@ impl StreamsState {
             });
         }
     }
+}
+
+/// Room that need not be initialised, as Rust's own type of it.
+fn uninit(room: &mut UninitSlice) -> &mut [MaybeUninit<u8>] {
+    // SAFETY: it is so many bytes, initialised or not, and the borrow goes on.
+    unsafe { slice::from_raw_parts_mut(room.as_mut_ptr().cast(), room.len()) }
 }
 
 /// More than a packet carries.

@@ -1,0 +1,142 @@
+/* The memory of what was read is used again for what comes, and there is a
+ * bound on what is kept of it. Linked as wrapped.h says. */
+#include "check.h"
+#include "wrapped.h"
+
+enum { WINDOW = 1 << 20, PIECE = 1100, MOST_KEPT = 64 };
+
+static uint8_t text[1 << 16];
+
+/* A server that may receive on a stream of the client, which it accepted. */
+static void open_reader(qs_conn *conn, uint64_t *offset) {
+  qs_error error = {0, 0, {0}};
+  uint64_t id = 99;
+  SAME(open_end(conn, QS_SERVER, 4, WINDOW, WINDOW), QS_OK);
+  SAME(qs_on_stream(conn, 2, 0, text, 1, 0, 1, &error), QS_OK);
+  SAME(qs_stream_accept(conn, QS_UNI, &id), QS_OK);
+  *offset = 1;
+}
+
+/* The next bytes of the stream come. */
+static void take_in(qs_conn *conn, uint64_t *offset, size_t len) {
+  qs_error error = {0, 0, {0}};
+  SAME(qs_on_stream(conn, 2, *offset, text, len, 0, len, &error), QS_OK);
+  *offset += len;
+}
+
+/* The same, in a payload: a frame of the type STREAM with an offset, that
+ * reaches to the end of the payload (RFC 9000 section 19.8). */
+static void take_payload(qs_conn *conn, uint64_t *offset, size_t len) {
+  uint8_t payload[2000] = {0x0c, 2, 0x80};
+  qs_error error = {0, 0, {0}};
+  size_t next = 0;
+  for (int place = 0; place < 3; place++)
+    payload[3 + place] = (uint8_t)(*offset >> (16 - 8 * place));
+  memcpy(payload + 6, text, len);
+  SAME(qs_receive(conn, payload, len + 6, &next, &error), QS_OK);
+  *offset += len;
+}
+
+/* All that is there is read; answers how many bytes. */
+static size_t read_all(qs_conn *conn) {
+  static uint8_t out[1 << 16];
+  uint64_t at = 0, code = 0;
+  size_t count = 0, all = 0;
+  int32_t answer = QS_OK;
+  while (answer == QS_OK) {
+    answer = qs_stream_read_many(conn, 2, out, sizeof out, &count, &at, &code);
+    all += count;
+  }
+  SAME(answer, QS_DONE);
+  return all;
+}
+
+typedef void taken(qs_conn *conn, uint64_t *offset, size_t len);
+
+/* What comes and is read takes no memory, once as much came before. */
+static void takes_none(taken *take) {
+  qs_conn conn = QS_CONN_INIT;
+  uint64_t offset = 0;
+  open_reader(&conn, &offset);
+  for (int round = 0; round < 20; round++) {
+    long before = asked;
+    for (int frame = 0; frame < 10; frame++)
+      take(&conn, &offset, (size_t)(PIECE + frame));
+    SAME(read_all(&conn) >= 10 * PIECE, 1);
+    if (round > 2)
+      SAME(asked - before, 0);
+  }
+  qs_conn_free(&conn);
+  SAME(held, 0);
+}
+
+static void a_frame_takes_no_memory(void) { takes_none(take_in); }
+
+static void a_payload_takes_no_memory(void) { takes_none(take_payload); }
+
+/* Of many pieces that were read, few are kept, and of long ones none. */
+static void few_pieces_are_kept(void) {
+  qs_conn conn = QS_CONN_INIT;
+  uint64_t offset = 0;
+  open_reader(&conn, &offset);
+  read_all(&conn);
+  long before = held;
+  for (int frame = 0; frame < 100; frame++)
+    take_in(&conn, &offset, 4096);
+  SAME(read_all(&conn), 100 * 4096);
+  SAME(held - before < 10, 1);
+  for (int frame = 0; frame < 400; frame++)
+    take_in(&conn, &offset, PIECE);
+  SAME(held - before >= 400, 1);
+  SAME(read_all(&conn), 400 * PIECE);
+  SAME(held - before >= MOST_KEPT, 1);
+  SAME(held - before < MOST_KEPT + 10, 1);
+  qs_conn_free(&conn);
+  SAME(held, 0);
+}
+
+/* Short bytes take no long piece. */
+static void a_short_frame_takes_its_own_memory(void) {
+  qs_conn conn = QS_CONN_INIT;
+  uint64_t offset = 0;
+  open_reader(&conn, &offset);
+  for (int frame = 0; frame < 10; frame++)
+    take_in(&conn, &offset, PIECE);
+  read_all(&conn);
+  for (size_t len = 1; len < PIECE * 4 / 5; len *= 2) {
+    long before = asked;
+    take_in(&conn, &offset, len);
+    SAME(asked - before >= 1, 1);
+  }
+  qs_conn_free(&conn);
+  SAME(held, 0);
+}
+
+/* Frames of another length than before use the memory again, too. */
+static void another_length_is_kept_in_time(void) {
+  qs_conn conn = QS_CONN_INIT;
+  uint64_t offset = 0;
+  open_reader(&conn, &offset);
+  for (size_t len = PIECE; len < 2000; len += 400) {
+    for (int round = 0; round < 20; round++) {
+      long before = asked;
+      for (int frame = 0; frame < 10; frame++)
+        take_in(&conn, &offset, len);
+      SAME(read_all(&conn) >= 10 * len, 1);
+      if (round > 12)
+        SAME(asked - before, 0);
+    }
+  }
+  qs_conn_free(&conn);
+  SAME(held, 0);
+}
+
+int main(void) {
+  a_frame_takes_no_memory();
+  a_payload_takes_no_memory();
+  few_pieces_are_kept();
+  a_short_frame_takes_its_own_memory();
+  another_length_is_kept_in_time();
+  printf("memory: 5 tests\n");
+  return 0;
+}
