@@ -100,8 +100,9 @@ impl PieceMemory {
         ensures copy { IfOk result (λ copy. copy.items ≡ bytes.now) }
         ensures same { self.new ≡ self.old }
     {
-        let Some(mut piece) = self.take(bytes.len()) else {
-            return Ok(Vec::from_slice(alloc, bytes)?);
+        let mut piece = match self.take(bytes.len()) {
+            Some(piece) => piece,
+            None => Vec::with_capacity(alloc, room_for(bytes.len()))?,
         };
         piece.clear();
         piece.extend_from_slice(bytes)?;
@@ -153,6 +154,16 @@ fn is_kept(room: usize) -> bool
     ensures { result ≡ true → room ≤ 2048 }
 {
     LEAST_ROOM <= room && room <= MOST_ROOM
+}
+
+// How much room memory gets that is taken anew for so many bytes: a little more than for these, if it may be kept, so that it
+// is fit for bytes of almost the same length, too.
+fn room_for(size: usize) -> usize {
+    if is_kept(size) {
+        (size + 63) / 64 * 64
+    } else {
+        size
+    }
 }
 
 // Whether memory with so much room is fit for so many bytes: they have room in it, and leave little of it.
