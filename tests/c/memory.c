@@ -3,7 +3,7 @@
 #include "check.h"
 #include "wrapped.h"
 
-enum { WINDOW = 1 << 20, PIECE = 1100, MOST_KEPT = 64 };
+enum { WINDOW = 1 << 20, PIECE = 1100, MOST_KEPT = 128 };
 
 static uint8_t text[1 << 16];
 

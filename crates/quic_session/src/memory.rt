@@ -59,14 +59,14 @@ impl FrameMemory {
 }
 
 // How many pieces of memory are kept at most.
-const MOST_PIECES: usize = 64;
+const MOST_PIECES: usize = 128;
 
 // How many bytes each of them has room for, at least and at most. It is quick to take a smaller one anew.
 const LEAST_ROOM: usize = 512;
 
 const MOST_ROOM: usize = 2048;
 
-/// The memory of bytes that were read, which is used again for those that come: at most 64 pieces of at most 2,048 bytes.
+/// The memory of bytes that were read, which is used again for those that come: at most 128 pieces of at most 2,048 bytes.
 /// Contracts see nothing of it, but that it is bounded.
 #[derive(Drop)]
 pub(crate) struct PieceMemory {
@@ -80,7 +80,7 @@ impl Model for PieceMemory {
 
     ghost view = { λ m. tt };
 
-    ghost invariant = { λ m. (vec_len m.list ≤ 64) × All (λ piece. vec_capacity piece ≤ 2048) m.list.items };
+    ghost invariant = { λ m. (vec_len m.list ≤ 128) × All (λ piece. vec_capacity piece ≤ 2048) m.list.items };
 }
 
 impl PieceMemory {
