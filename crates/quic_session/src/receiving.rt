@@ -69,11 +69,11 @@ impl Session {
 
     /// A copy of the data of a frame, as for [`Session::receive_frame`]. It takes memory that was used before, where there is
     /// some.
-    pub fn copy_of(&mut self, data: &[u8]) -> Result<Bytes, OutOfMemory>
-        ensures copy { IfOk result (λ copy. copy ≡ data.now) }
+    pub fn copy_of(&mut self, bytes: &[u8]) -> Result<Bytes, OutOfMemory>
+        ensures copy { IfOk result (λ copy. copy ≡ bytes.now) }
         ensures same { self.new ≡ self.old }
     {
-        Ok(Bytes::from(self.pieces.copy_of(self.alloc, data)?))
+        Ok(Bytes::from(self.pieces.copy_of(self.alloc, bytes)?))
     }
 
     // Takes the frames of a payload, from a place on.
