@@ -45,32 +45,30 @@ static void take_events(qs_conn *conn) {
     continue;
 }
 
-/* All that is there is read; answers how many bytes. */
-static size_t read_all(qs_conn *conn) {
+typedef int32_t reads(qs_conn *conn, uint64_t id, uint8_t *to, size_t cap,
+                      size_t *count, uint64_t *offset, uint64_t *app_code);
+
+/* All that is there is read, until the last answer; answers how many bytes. */
+static size_t read_by(reads *read, int32_t last, qs_conn *conn) {
   uint64_t at = 0, code = 0;
   size_t count = 0, all = 0;
   int32_t answer = QS_OK;
   take_events(conn);
   while (answer == QS_OK) {
-    answer = qs_stream_read_many(conn, 2, out, sizeof out, &count, &at, &code);
+    answer = read(conn, 2, out, sizeof out, &count, &at, &code);
     all += count;
   }
-  SAME(answer, QS_DONE);
+  SAME(answer, last);
   return all;
+}
+
+static size_t read_all(qs_conn *conn) {
+  return read_by(qs_stream_read_many, QS_DONE, conn);
 }
 
 /* The same, piece by piece. */
 static size_t read_pieces(qs_conn *conn) {
-  uint64_t at = 0, code = 0;
-  size_t count = 0, all = 0;
-  int32_t answer = QS_OK;
-  take_events(conn);
-  while (answer == QS_OK) {
-    answer = qs_stream_read(conn, 2, out, sizeof out, &count, &at, &code);
-    all += count;
-  }
-  SAME(answer, QS_ERR_BLOCKED);
-  return all;
+  return read_by(qs_stream_read, QS_ERR_BLOCKED, conn);
 }
 
 typedef void taken(qs_conn *conn, uint64_t *offset, size_t len);
