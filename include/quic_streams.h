@@ -27,10 +27,11 @@
  * are initialised, and so is all that pointers to single values point to.
  * Buffers that are only written need not be. With length 0 a buffer may be
  * NULL; other pointers may not. The library keeps no pointer of the host's
- * after a call, and hands out one of its own only in qs_emit_lent.
+ * after a call. It hands out pointers of its own in qs_emit_lent, in
+ * qs_stream_read_lent and in a qs_buffer.
  *
- * THREADS. A call on a handle must have ended before the next call on the same
- * handle begins. Handles share nothing: those of different connections may be
+ * THREADS. A call on a handle or a qs_buffer must have ended before the next
+ * call on the same one begins. Handles share nothing: those of different connections may be
  * used by different threads at the same time, and a handle may move from one
  * thread to another where the host orders the two, for example by a lock.
  */
@@ -279,6 +280,29 @@ int32_t qs_stream_read_many(qs_conn *conn, uint64_t id, uint8_t *data,
                             size_t cap, size_t *count, uint64_t *offset,
                             uint64_t *app_code);
 
+/* Bytes that are lent: len of those at memory, from start on. */
+typedef struct qs_slice {
+  const uint8_t *memory;
+  size_t start;
+  size_t len;
+} qs_slice;
+
+static inline const uint8_t *qs_slice_data(const qs_slice *slice) {
+  return slice->memory + slice->start;
+}
+
+/* Reads the next bytes of a stream in order as qs_stream_read_many does, but
+ * copies none: slices are set to where they are, in memory of the session, one
+ * for each frame whose data it gives. The bytes may be read until the next call
+ * on the handle. At most max slices are set, and at most 64.
+ * *count is how many, and may be 0; *offset is set where it is above 0, to the
+ * offset of the first byte.
+ * The return values are those of qs_stream_read_many. QS_ERR_TOO_SMALL: max is
+ * 0. */
+int32_t qs_stream_read_lent(qs_conn *conn, uint64_t id, qs_slice *slices,
+                            size_t max, size_t *count, uint64_t *offset,
+                            uint64_t *app_code);
+
 /* ---- windows, counts, events --------------------------------------------- */
 
 /* Sets how many written bytes are kept at most until they are acknowledged. */
@@ -334,6 +358,32 @@ typedef struct qs_info {
 /* The state of the session. QS_OK: *info is set. */
 int32_t qs_get_info(qs_conn *conn, qs_info *info);
 
+/* ---- buffers ------------------------------------------------------------- */
+
+/* Memory for one payload, for a host that copies none: qs_emit_buffer writes
+ * into it, and qs_receive_buffer takes a payload out of it. In between the host
+ * reads and writes the len bytes at data, for example to encrypt or decrypt a
+ * packet in place. All zero bytes are a closed buffer. As a handle it may be
+ * moved, but never copied. A buffer belongs to no session. Each call on a
+ * buffer sets data and len, which the library never reads. */
+typedef struct qs_buffer {
+  uint64_t live;
+  void *at;
+  uint8_t *data;
+  size_t len;
+} qs_buffer;
+
+#define QS_BUFFER_INIT                                                         \
+  { 0, NULL, NULL, 0 }
+
+/* Makes a buffer at least size bytes long: zeros are put behind those that it
+ * has. A closed buffer is opened. QS_ERR_NOMEM: its bytes stay, and a closed
+ * one stays closed. */
+int32_t qs_buffer_reserve(qs_buffer *buffer, size_t size);
+
+/* Frees the memory of a buffer, and closes it. */
+void qs_buffer_free(qs_buffer *buffer);
+
 /* ---- what came from the peer --------------------------------------------- */
 
 typedef struct qs_error {
@@ -359,6 +409,16 @@ typedef struct qs_error {
  * STREAM_STATE_ERROR (RFC 9000 sections 19.5 and 19.13). */
 int32_t qs_receive(qs_conn *conn, const uint8_t *payload, size_t len,
                    size_t *next, qs_error *error);
+
+/* The same for the first len bytes of a buffer, but these are not copied where
+ * they leave at most some fifth of its memory free: they stay in it, and the
+ * buffer gets other memory, with any bytes. It may be shorter then: call
+ * qs_buffer_reserve before the next packet.
+ * QS_ERR_CLOSED: the handle or the buffer is closed. QS_ERR_ARGUMENT: len is
+ * above the length of the buffer. QS_ERR_NOMEM: as above, but the buffer may
+ * have lost the payload: treat the packet as one that did not come. */
+int32_t qs_receive_buffer(qs_conn *conn, qs_buffer *buffer, size_t len,
+                          size_t *next, qs_error *error);
 
 /* For a host that decodes frames itself: one call for each frame, with the
  * fields of RFC 9000 section 19. QS_ERR_NOMEM: the frame was not taken.
@@ -418,6 +478,12 @@ int32_t qs_emit(qs_conn *conn, uint32_t parts, uint32_t fair, uint8_t *data,
  * read until the next call on the handle. */
 int32_t qs_emit_lent(qs_conn *conn, uint32_t parts, uint32_t fair, size_t cap,
                      const uint8_t **data, qs_payload *payload);
+
+/* The same, but the payload is written into a buffer, which has it alone then:
+ * its len is payload->len. What it had before is gone. Only QS_OK changes the
+ * buffer. QS_ERR_CLOSED: the handle or the buffer is closed. */
+int32_t qs_emit_buffer(qs_conn *conn, uint32_t parts, uint32_t fair, size_t cap,
+                       qs_buffer *buffer, qs_payload *payload);
 
 typedef struct qs_due {
   uint64_t control;   /* 1: control frames wait to be sent */

@@ -76,6 +76,9 @@ class Programs(Built):
     def test_each_number_at_its_bounds(self):
         self.assertIn("5 tests", run(self.build("bounds")))
 
+    def test_buffers_and_reads_that_lend(self):
+        self.assertIn("7 tests", run(self.build("buffers")))
+
     def test_two_ends(self):
         self.assertIn("100 seeds", run(self.build("two_ends"), "100"))
 
@@ -83,7 +86,7 @@ class Programs(Built):
         self.assertIn("allocations", run(self.build("failing", *WRAPS)))
 
     def test_memory_is_used_again(self):
-        self.assertIn("5 tests", run(self.build("memory", *WRAPS)))
+        self.assertIn("6 tests", run(self.build("memory", *WRAPS)))
 
     def test_hostile_payloads(self):
         self.assertIn(f"{PAYLOADS} payloads", run(self.build("hostile"), PAYLOADS))
@@ -92,12 +95,14 @@ class Programs(Built):
         valgrind = [tool("valgrind"), "-q", "--error-exitcode=9", "--leak-check=full", "--errors-for-leak-kinds=all"]
         run(*valgrind, self.build("one_end"))
         run(*valgrind, self.build("bounds"))
+        run(*valgrind, self.build("buffers"))
         run(*valgrind, self.build("two_ends"), "2")
         run(*valgrind, self.build("hostile"), "3000")
 
     def test_address_sanitizer(self):
         flags = ["-fsanitize=address,undefined", "-fno-sanitize-recover=all"]
         run(self.build("one_end", *flags))
+        run(self.build("buffers", *flags))
         run(self.build("two_ends", *flags), "5")
         run(self.build("hostile", *flags), "50000")
 

@@ -131,6 +131,24 @@ static void rest(qs_conn *a) {
   SAME(qs_emit_lent(a, 8, 0, sizeof data, &lent, &payload), QS_ERR_ARGUMENT);
   SAME(qs_emit_lent(a, QS_ALL, 0, 0, &lent, &payload), QS_DONE);
   SAME(lent == data, 1);
+  qs_buffer buffer = QS_BUFFER_INIT;
+  qs_slice slice = {data, 1, 1};
+  uint64_t offset = 7, code = 7;
+  size_t count = 7;
+  SAME(qs_buffer_reserve(&buffer, SIZE_MAX), QS_ERR_NOMEM);
+  SAME(qs_buffer_reserve(&buffer, 1), QS_OK);
+  SAME(qs_emit_buffer(a, 0, 0, SIZE_MAX, &buffer, &payload), QS_ERR_ARGUMENT);
+  SAME(qs_emit_buffer(a, UINT32_MAX, 0, 0, &buffer, &payload), QS_ERR_ARGUMENT);
+  SAME(qs_emit_buffer(a, QS_ALL, 0, 0, &buffer, &payload), QS_DONE);
+  SAME(qs_receive_buffer(a, &buffer, 2, &next, &error), QS_ERR_ARGUMENT);
+  SAME(qs_receive_buffer(a, &buffer, SIZE_MAX, &next, &error), QS_ERR_ARGUMENT);
+  SAME(next == SIZE_MAX, 1);
+  qs_buffer_free(&buffer);
+  SAME(qs_stream_read_lent(a, END, &slice, 1, &count, &offset, &code),
+       QS_ERR_ARGUMENT);
+  SAME(qs_stream_read_lent(a, 0, &slice, 0, &count, &offset, &code),
+       QS_ERR_TOO_SMALL);
+  SAME(slice.memory == data && count + offset + code == 21, 1);
   SAME(qs_acked(a, 0), QS_ERR_TOKEN);
   SAME(qs_lost(a, UINT64_MAX), QS_ERR_TOKEN);
   SAME(qs_receive(a, (const uint8_t *)"\x10\x05", 2, &next, &error), QS_OK);

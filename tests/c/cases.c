@@ -20,7 +20,8 @@ enum {
   PERIOD = 20,
   STREAM = 1024,
   PART = 256,
-  STREAMS = 1000
+  STREAMS = 1000,
+  LENT = 64
 };
 
 #define REFUSED UINT64_MAX
@@ -54,7 +55,7 @@ typedef struct {
   size_t flying;
   uint64_t *ids; /* streams on which the server has something to read */
   size_t noted, room;
-  uint8_t buffer[SEGMENT];
+  qs_buffer buffer; /* the payload that is on its way */
 } pair;
 
 static int open_end(qs_conn *conn, uint32_t side, uint64_t count) {
@@ -72,9 +73,11 @@ static pair *open_pair(uint64_t count, uint64_t stream_len, int lossy) {
   p->lossy = lossy;
   p->stream_len = stream_len;
   if (open_end(&p->client, QS_CLIENT, count) &&
-      open_end(&p->server, QS_SERVER, count))
+      open_end(&p->server, QS_SERVER, count) &&
+      qs_buffer_reserve(&p->buffer, 0) == QS_OK)
     return p;
   qs_conn_free(&p->client);
+  qs_conn_free(&p->server);
   free(p);
   return NULL;
 }
@@ -82,34 +85,34 @@ static pair *open_pair(uint64_t count, uint64_t stream_len, int lossy) {
 static void close_pair(pair *p) {
   qs_conn_free(&p->client);
   qs_conn_free(&p->server);
+  qs_buffer_free(&p->buffer);
   free(p->ids);
   free(p);
 }
 
-static int deliver(qs_conn *to, const uint8_t *payload, size_t len) {
+static int deliver(qs_conn *to, qs_buffer *payload) {
   size_t next = 0;
   qs_error error;
-  memset(&error, 0, sizeof error);
-  return qs_receive(to, payload, len, &next, &error) == QS_OK;
+  error.code = 0;
+  return qs_receive_buffer(to, payload, payload->len, &next, &error) == QS_OK;
 }
 
 /* Has the next payload of an end written, and sums its bytes. */
-static int32_t emit(qs_conn *from, seen *sum, const uint8_t **payload,
+static int32_t emit(qs_conn *from, seen *sum, qs_buffer *payload,
                     qs_payload *head) {
-  int32_t answer = qs_emit_lent(from, QS_ALL, 1, PIECE, payload, head);
+  int32_t answer = qs_emit_buffer(from, QS_ALL, 1, PIECE, payload, head);
   if (answer == QS_OK)
-    see_next(sum, *payload, (size_t)head->len);
+    see_next(sum, payload->data, payload->len);
   return answer;
 }
 
 /* Up to 32 payloads of the client, which are delivered but for the lost ones.
  * Answers whether there were any. */
 static int send_some(pair *p, int *some) {
-  const uint8_t *payload = NULL;
   qs_payload head = {0, 0, 0};
   *some = 0;
   for (p->flying = 0; p->flying < BURST; p->flying++) {
-    int32_t answer = emit(&p->client, &p->to_server, &payload, &head);
+    int32_t answer = emit(&p->client, &p->to_server, &p->buffer, &head);
     if (answer != QS_OK)
       return answer == QS_DONE;
     *some = 1;
@@ -117,7 +120,7 @@ static int send_some(pair *p, int *some) {
     p->payloads++;
     p->tokens[p->flying] = head.token;
     p->lost[p->flying] = lost;
-    if (!lost && !deliver(&p->server, payload, (size_t)head.len))
+    if (!lost && !deliver(&p->server, &p->buffer))
       return 0;
   }
   return 1;
@@ -140,10 +143,14 @@ static int read_stream(pair *p, uint64_t id) {
   uint64_t first = p->stream_len * qs_id_index(id), offset = 0, code = 0;
   int32_t answer = QS_OK;
   while (answer == QS_OK) {
+    qs_slice slices[LENT];
     size_t count = 0;
-    answer = qs_stream_read_many(&p->server, id, p->buffer, sizeof p->buffer,
-                                 &count, &offset, &code);
-    see(&p->read, first + offset, p->buffer, count);
+    answer = qs_stream_read_lent(&p->server, id, slices, LENT, &count, &offset,
+                                 &code);
+    for (size_t at = 0; at < count; at++) {
+      see(&p->read, first + offset, qs_slice_data(&slices[at]), slices[at].len);
+      offset += slices[at].len;
+    }
   }
   p->ended += answer == QS_END;
   return answer == QS_END || answer == QS_DONE || answer == QS_ERR_NO_STREAM;
@@ -174,11 +181,10 @@ static int read_all(pair *p) {
 
 /* The server answers, which always comes. */
 static int answer_all(pair *p) {
-  const uint8_t *payload = NULL;
   qs_payload head = {0, 0, 0};
   int32_t answer;
-  while ((answer = emit(&p->server, &p->to_client, &payload, &head)) == QS_OK)
-    if (!deliver(&p->client, payload, (size_t)head.len) ||
+  while ((answer = emit(&p->server, &p->to_client, &p->buffer, &head)) == QS_OK)
+    if (!deliver(&p->client, &p->buffer) ||
         qs_acked(&p->server, head.token) != QS_OK)
       return 0;
   return answer == QS_DONE;

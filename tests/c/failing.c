@@ -89,23 +89,108 @@ static void session(void) {
   qs_conn_free(&b);
 }
 
-int main(void) {
-  long allocations = 0, total = 0;
-  session();
-  allocations = asked;
+/* All that an end has to send goes over in a buffer. A payload that the other
+ * end had no memory for is lost, and sent again. */
+static void send_by(qs_buffer *buffer, qs_conn *from, qs_conn *to) {
+  qs_payload head = {0, 0, 0};
+  for (;;) {
+    int32_t answer = qs_emit_buffer(from, QS_ALL, 1, 600, buffer, &head);
+    if (answer == QS_ERR_NOMEM) {
+      refused++;
+      continue;
+    }
+    if (answer == QS_DONE)
+      return;
+    SAME(answer, QS_OK);
+    qs_error error = {0, 0, {0}};
+    size_t next = 0;
+    answer = qs_receive_buffer(to, buffer, buffer->len, &next, &error);
+    if (answer == QS_ERR_NOMEM) {
+      refused++;
+      ONCE_MORE(qs_lost(from, head.token));
+      continue;
+    }
+    SAME(answer, QS_OK);
+    ONCE_MORE(qs_acked(from, head.token));
+  }
+}
+
+/* Reads a stream to its end. Answers how many bytes there were, all the same. */
+static size_t read_lent(qs_conn *conn, uint64_t id, uint8_t byte) {
+  uint64_t offset = 0, code = 0;
+  size_t all = 0;
+  for (int32_t answer = QS_OK; answer != QS_END;) {
+    qs_slice slices[8];
+    size_t count = 0;
+    answer =
+        qs_stream_read_lent(conn, id, slices, 8, &count, &offset, &code);
+    if (answer == QS_ERR_NOMEM)
+      refused++;
+    else if (answer != QS_END)
+      SAME(answer, QS_OK);
+    for (size_t at = 0; at < count; at++) {
+      SAME(qs_slice_data(&slices[at])[0], byte);
+      all += slices[at].len;
+    }
+  }
+  return all;
+}
+
+static void session_without_copies(void) {
+  qs_conn a = QS_CONN_INIT, b = QS_CONN_INIT;
+  qs_buffer buffer = QS_BUFFER_INIT;
+  const qs_config config = {sizeof config, QS_CLIENT, 2,   2,  9000,
+                            9000,          9000,      500, 500};
+  qs_config config_b = config;
+  const qs_peer_limits limits = {9000, 2, 2, 9000, 9000, 9000, 100};
+  uint64_t id = 0, code = 0;
+  size_t written = 0;
+  uint8_t text[7000];
+  memset(text, 'x', sizeof text);
+  config_b.side = QS_SERVER;
+  ONCE_MORE(qs_conn_open(&a, &config));
+  ONCE_MORE(qs_conn_open(&b, &config_b));
+  ONCE_MORE(qs_set_peer_limits(&a, &limits));
+  ONCE_MORE(qs_set_peer_limits(&b, &limits));
+  ONCE_MORE(qs_buffer_reserve(&buffer, 100));
+  SAME(buffer.len, 100);
+  ONCE_MORE(qs_stream_open(&a, QS_UNI, &id));
+  ONCE_MORE(qs_stream_write(&a, id, text, sizeof text, &written, &code));
+  SAME(written, sizeof text);
+  ONCE_MORE(qs_stream_finish(&a, id, &code));
+  send_by(&buffer, &a, &b);
+  ONCE_MORE(qs_stream_accept(&b, QS_UNI, &id));
+  SAME(read_lent(&b, id, 'x'), sizeof text);
+  qs_conn_free(&a);
+  qs_conn_free(&b);
+  qs_buffer_free(&buffer);
+}
+
+/* A session, and the same with each of its allocations refused. */
+static void refuse_each(void (*run)(void)) {
+  long total = 0;
+  const long before = asked;
+  run();
+  const long allocations = asked - before;
   SAME(refused, 0);
   SAME(held, 0);
   SAME(allocations > 20, 1);
   for (long k = 1; k <= allocations; k++) {
     countdown = k;
     refused = 0;
-    session();
+    run();
     countdown = 0;
     SAME(held, 0);
     total += refused;
   }
   SAME(total > 0, 1);
+  refused = 0;
   printf("failing: %ld allocations, %ld answers for lack of memory\n",
          allocations, total);
+}
+
+int main(void) {
+  refuse_each(session);
+  refuse_each(session_without_copies);
   return 0;
 }

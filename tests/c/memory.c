@@ -37,6 +37,21 @@ static void take_payload(qs_conn *conn, uint64_t *offset, size_t len) {
   *offset += len;
 }
 
+static qs_buffer buffer = QS_BUFFER_INIT;
+
+/* The same, in a buffer. */
+static void take_buffer(qs_conn *conn, uint64_t *offset, size_t len) {
+  qs_error error = {0, 0, {0}};
+  size_t next = 0;
+  SAME(qs_buffer_reserve(&buffer, len + 6), QS_OK);
+  memcpy(buffer.data, "\x0c\x02\x80", 3);
+  for (int place = 0; place < 3; place++)
+    buffer.data[3 + place] = (uint8_t)(*offset >> (16 - 8 * place));
+  memcpy(buffer.data + 6, text, len);
+  SAME(qs_receive_buffer(conn, &buffer, len + 6, &next, &error), QS_OK);
+  *offset += len;
+}
+
 static uint8_t out[1 << 16];
 
 static void take_events(qs_conn *conn) {
@@ -66,6 +81,22 @@ static size_t read_all(qs_conn *conn) {
   return read_by(qs_stream_read_many, QS_DONE, conn);
 }
 
+/* The same, without a copy. */
+static size_t read_lent(qs_conn *conn) {
+  uint64_t at = 0, code = 0;
+  size_t count = 0, all = 0;
+  int32_t answer = QS_OK;
+  qs_slice slices[64];
+  take_events(conn);
+  while (answer == QS_OK) {
+    answer = qs_stream_read_lent(conn, 2, slices, 64, &count, &at, &code);
+    for (size_t piece = 0; piece < count; piece++)
+      all += slices[piece].len;
+  }
+  SAME(answer, QS_DONE);
+  return all;
+}
+
 /* The same, piece by piece. */
 static size_t read_pieces(qs_conn *conn) {
   return read_by(qs_stream_read, QS_ERR_BLOCKED, conn);
@@ -73,8 +104,10 @@ static size_t read_pieces(qs_conn *conn) {
 
 typedef void taken(qs_conn *conn, uint64_t *offset, size_t len);
 
+typedef size_t seen(qs_conn *conn);
+
 /* What comes and is read takes no memory, once as much came before. */
-static void takes_none(taken *take) {
+static void takes_none(taken *take, seen *read) {
   qs_conn conn = QS_CONN_INIT;
   uint64_t offset = 0;
   open_reader(&conn, &offset);
@@ -82,17 +115,29 @@ static void takes_none(taken *take) {
     long before = asked;
     for (int frame = 0; frame < 10; frame++)
       take(&conn, &offset, (size_t)(PIECE + frame));
-    SAME(read_all(&conn) >= 10 * PIECE, 1);
+    SAME(read(&conn) >= 10 * PIECE, 1);
     if (round > 2)
       SAME(asked - before, 0);
   }
   qs_conn_free(&conn);
+  qs_buffer_free(&buffer);
   SAME(held, 0);
 }
 
-static void a_frame_takes_no_memory(void) { takes_none(take_in); }
+static void a_frame_takes_no_memory(void) {
+  takes_none(take_in, read_all);
+  takes_none(take_in, read_lent);
+}
 
-static void a_payload_takes_no_memory(void) { takes_none(take_payload); }
+static void a_payload_takes_no_memory(void) {
+  takes_none(take_payload, read_all);
+  takes_none(take_payload, read_lent);
+}
+
+static void a_buffer_takes_no_memory(void) {
+  takes_none(take_buffer, read_all);
+  takes_none(take_buffer, read_lent);
+}
 
 /* Of many pieces that were read, few are kept, and of long ones none. */
 static void few_pieces_are_kept(void) {
@@ -154,9 +199,10 @@ static void another_length_is_kept_in_time(void) {
 int main(void) {
   a_frame_takes_no_memory();
   a_payload_takes_no_memory();
+  a_buffer_takes_no_memory();
   few_pieces_are_kept();
   a_short_frame_takes_its_own_memory();
   another_length_is_kept_in_time();
-  printf("memory: 5 tests\n");
+  printf("memory: 6 tests\n");
   return 0;
 }

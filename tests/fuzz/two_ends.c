@@ -46,6 +46,7 @@ typedef struct {
   uint8_t packets[HELD][256];
   qs_payload heads[HELD];
   size_t held;
+  qs_buffer buffer;
 } end;
 
 static void open_end(end *e, uint32_t side, input *in) {
@@ -56,19 +57,28 @@ static void open_end(end *e, uint32_t side, input *in) {
   const qs_peer_limits limits = {window,     count,      count,      window / 2,
                                  window / 2, window / 2, take(in, 1)};
   must(qs_conn_open(&e->conn, &config) == QS_OK);
+  must(qs_buffer_reserve(&e->buffer, 0) == QS_OK);
   must(qs_set_peer_limits(&e->conn, &limits) == QS_OK);
 }
 
-/* Writes a payload into the next packet, copied by the library or from where
- * it is lent. */
+/* Writes a payload into the next packet, copied by the library, from where it
+ * is lent, or from a buffer. */
 static int32_t emit(end *e, uint32_t parts, uint32_t fair, size_t cap,
-                    int lends) {
+                    uint64_t how) {
   uint8_t *packet = e->packets[e->held];
   qs_payload *head = &e->heads[e->held];
   const uint8_t *lent = NULL;
   qs_due due = {0, 0, 0};
-  if (!lends)
+  if (how == 0)
     return qs_emit(&e->conn, parts, fair, packet, cap, head);
+  if (how == 1) {
+    const int32_t answer =
+        qs_emit_buffer(&e->conn, parts, fair, cap, &e->buffer, head);
+    must(answer != QS_OK || e->buffer.len == head->len);
+    if (answer == QS_OK)
+      memcpy(packet, e->buffer.data, (size_t)head->len);
+    return answer;
+  }
   must(qs_get_due(&e->conn, &due) == QS_OK);
   const int32_t answer = qs_emit_lent(&e->conn, parts, fair, cap, &lent, head);
   must(answer != QS_OK || head->len <= cap);
@@ -77,14 +87,44 @@ static int32_t emit(end *e, uint32_t parts, uint32_t fair, size_t cap,
   return answer;
 }
 
+/* Takes a payload, from where it is or from a buffer. */
+static void receive(end *e, const uint8_t *payload, size_t len, int buffered) {
+  size_t next = 0;
+  qs_error error = {0, 0, {0}};
+  if (!buffered) {
+    (void)qs_receive(&e->conn, payload, len, &next, &error);
+    return;
+  }
+  must(qs_buffer_reserve(&e->buffer, len) == QS_OK && e->buffer.len >= len);
+  if (len > 0)
+    memcpy(e->buffer.data, payload, len);
+  const int32_t answer =
+      qs_receive_buffer(&e->conn, &e->buffer, len, &next, &error);
+  must(answer != QS_ERR_CLOSED && answer != QS_ERR_ARGUMENT);
+}
+
+/* Reads what is lent, and looks at each byte. */
+static void read_lent(end *e, uint64_t id, size_t max) {
+  qs_slice slices[8];
+  uint64_t offset = 0, code = 0;
+  size_t count = 0;
+  volatile unsigned sum = 0;
+  (void)qs_stream_read_lent(&e->conn, id, slices, max, &count, &offset, &code);
+  must(count <= max);
+  for (size_t at = 0; at < count; at++) {
+    must(slices[at].len > 0);
+    for (size_t byte = 0; byte < slices[at].len; byte++)
+      sum += qs_slice_data(&slices[at])[byte];
+  }
+}
+
 static void call(end *e, end *peer, input *in) {
   uint64_t id = take(in, 1) % 64, out = 0, code = 0;
   size_t count = 0, next = 0;
   uint8_t bytes[256] = {0};
   qs_event event = {0, 0, 0, 0};
-  qs_error error = {0, 0, {0}};
   qs_info info;
-  const uint64_t kind = take(in, 1) % 22;
+  const uint64_t kind = take(in, 1) % 23;
   switch (kind) {
   case 0:
     (void)qs_stream_open(&e->conn, (uint32_t)id % 2, &out);
@@ -143,8 +183,7 @@ static void call(end *e, end *peer, input *in) {
   case 15: /* bytes that no end wrote */
     for (count = take(in, 1) % 64; next < count; next++)
       bytes[next] = (uint8_t)take(in, 1);
-    next = 0;
-    (void)qs_receive(&e->conn, bytes, count, &next, &error);
+    receive(e, bytes, count, id % 2);
     break;
   case 16:
   case 17:
@@ -154,7 +193,7 @@ static void call(end *e, end *peer, input *in) {
       memset(e->packets[e->held], 0, sizeof e->packets[0]);
       memset(head, 0, sizeof *head);
       if (emit(e, 1 + (uint32_t)id % 7, (uint32_t)kind % 2, cap,
-               take(in, 1) % 2) == QS_OK) {
+               take(in, 1) % 3) == QS_OK) {
         must(head->len > 0 && head->len <= cap && head->token > 0);
         e->held++;
       }
@@ -164,8 +203,7 @@ static void call(end *e, end *peer, input *in) {
   case 19: /* a payload comes; it stays, and may come again */
     if (e->held > 0) {
       const size_t at = (size_t)id % e->held;
-      (void)qs_receive(&peer->conn, e->packets[at], (size_t)e->heads[at].len,
-                       &next, &error);
+      receive(peer, e->packets[at], (size_t)e->heads[at].len, kind == 19);
     }
     break;
   case 20: /* a payload is settled */
@@ -180,6 +218,9 @@ static void call(end *e, end *peer, input *in) {
       e->heads[at] = e->heads[last];
       e->held = last;
     }
+    break;
+  case 21:
+    read_lent(e, id, (size_t)take(in, 1) % 9);
     break;
   default:
     memset(&info, 0, sizeof info);
@@ -200,6 +241,8 @@ int LLVMFuzzerTestOneInput(const uint8_t *data, size_t size) {
   }
   qs_conn_free(&ends[0].conn);
   qs_conn_free(&ends[1].conn);
+  qs_buffer_free(&ends[0].buffer);
+  qs_buffer_free(&ends[1].buffer);
   return 0;
 }
 

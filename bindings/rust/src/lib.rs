@@ -38,6 +38,7 @@
 
 #![warn(missing_docs)]
 
+mod buffers;
 mod errors;
 mod frames;
 mod state;
@@ -46,12 +47,13 @@ mod streams;
 pub mod sys;
 mod values;
 
+pub use buffers::Buffer;
 pub use errors::{
     ConfigError, FinishError, OutOfMemory, ReadError, ReceiveError, SendDatagramError, SettleError,
     StreamError, TransportError, WriteError,
 };
 pub use state::StreamsState;
-pub use streams::{Chunk, Chunks, Next, ReadMany, RecvStream, SendStream};
+pub use streams::{Chunk, Chunks, Next, ReadLent, ReadMany, RecvStream, SendStream};
 pub use values::{
     Config, Dir, Due, Emit, Event, Info, Lent, Limits, Payload, Side, StreamId, Token,
 };

@@ -168,11 +168,7 @@ impl StreamsState {
             )
         };
         match answer {
-            sys::OK => Ok(Some(Payload {
-                len: payload.len as usize,
-                token: Token(payload.token),
-                ends: payload.ends != 0,
-            })),
+            sys::OK => Ok(Some(payload_of(&payload))),
             sys::DONE => Ok(None),
             _ => Err(OutOfMemory),
         }

@@ -2,7 +2,10 @@ use crate::errors::*;
 use crate::state::StreamsState;
 use crate::sys;
 use crate::values::StreamId;
+use std::fmt;
+use std::marker::PhantomData;
 use std::mem::MaybeUninit;
+use std::slice::from_raw_parts;
 
 // The result of a call on a stream.
 fn answered(answer: i32) -> Result<(), StreamError> {
@@ -22,6 +25,16 @@ fn read_error(answer: i32, code: u64) -> ReadError {
         sys::ORDER => ReadError::IllegalOrderedRead,
         sys::NO_STREAM | sys::ARGUMENT => ReadError::ClosedStream,
         _ => ReadError::OutOfMemory,
+    }
+}
+
+// What follows the bytes of a read of several frames.
+fn next_of(answer: i32, code: u64) -> Result<Next, ReadError> {
+    match answer {
+        sys::OK => Ok(Next::More),
+        sys::DONE => Ok(Next::Blocked),
+        sys::END => Ok(Next::Finished),
+        answer => Err(read_error(answer, code)),
     }
 }
 
@@ -126,6 +139,43 @@ pub struct ReadMany {
     pub offset: u64,
     /// What follows them.
     pub next: Next,
+}
+
+// How many pieces a read lends at most.
+const MOST_LENT: usize = 64;
+
+/// What [`RecvStream::read_lent`] gave.
+pub struct ReadLent<'a> {
+    slices: [MaybeUninit<sys::Slice>; MOST_LENT],
+    count: usize,
+    /// The offset of the first byte, where there are any.
+    pub offset: u64,
+    /// What follows the bytes.
+    pub next: Next,
+    borrowed: PhantomData<&'a [u8]>,
+}
+
+impl<'a> ReadLent<'a> {
+    /// The bytes, in the pieces in which they came; there may be none.
+    pub fn pieces(&self) -> impl Iterator<Item = &'a [u8]> + '_ {
+        self.slices[..self.count].iter().map(|slice| {
+            // SAFETY: the library set so many slices, and what they name stays while the session is borrowed.
+            unsafe {
+                let slice = slice.assume_init();
+                from_raw_parts(slice.memory.add(slice.start), slice.len)
+            }
+        })
+    }
+}
+
+impl fmt::Debug for ReadLent<'_> {
+    fn fmt(&self, f: &mut fmt::Formatter<'_>) -> fmt::Result {
+        f.debug_struct("ReadLent")
+            .field("pieces", &self.pieces().collect::<Vec<_>>())
+            .field("offset", &self.offset)
+            .field("next", &self.next)
+            .finish()
+    }
 }
 
 /// The receive side of a stream.
@@ -251,16 +301,51 @@ impl<'a> RecvStream<'a> {
         let answer = unsafe {
             sys::qs_stream_read_many(conn, id, at, cap, &mut count, &mut offset, &mut code)
         };
-        let next = match answer {
-            sys::OK => Next::More,
-            sys::DONE => Next::Blocked,
-            sys::END => Next::Finished,
-            answer => return Err(read_error(answer, code)),
-        };
         Ok(ReadMany {
             count,
             offset,
-            next,
+            next: next_of(answer, code)?,
+        })
+    }
+
+    /// Reads the next bytes in order, of up to 64 frames in one call, without a copy: they stay in memory of the library until
+    /// the stream, or another of the same end, is used again.
+    ///
+    /// ```
+    /// # use quic_streams::{Config, Dir, Emit, Limits, Next, Side, StreamsState};
+    /// # fn main() -> Result<(), Box<dyn std::error::Error>> {
+    /// # let config = Config::default();
+    /// # let mut client = StreamsState::new(Side::Client, &config)?;
+    /// # let mut server = StreamsState::new(Side::Server, &config)?;
+    /// # client.set_params(&Limits::of(&config))?;
+    /// # let id = client.open(Dir::Uni)?.unwrap();
+    /// # client.send_stream(id).write(b"hello")?;
+    /// # client.send_stream(id).finish()?;
+    /// # let mut packet = [0; 100];
+    /// # let payload = client.emit(&mut packet, Emit::default())?.unwrap();
+    /// # server.receive(&packet[..payload.len])?;
+    /// # server.accept(Dir::Uni);
+    /// let mut stream = server.recv_stream(id);
+    /// let read = stream.read_lent()?;
+    /// assert_eq!(read.pieces().collect::<Vec<_>>(), [b"hello"]);
+    /// assert_eq!((read.offset, read.next), (0, Next::Finished));
+    /// # Ok(())
+    /// # }
+    /// ```
+    pub fn read_lent(&mut self) -> Result<ReadLent<'_>, ReadError> {
+        let mut slices = [MaybeUninit::<sys::Slice>::uninit(); MOST_LENT];
+        let (mut count, mut offset, mut code) = (0, 0, 0);
+        let (conn, id) = (&mut self.state.conn, self.id.0);
+        let (at, max) = (slices.as_mut_ptr().cast(), slices.len());
+        let answer = unsafe {
+            sys::qs_stream_read_lent(conn, id, at, max, &mut count, &mut offset, &mut code)
+        };
+        Ok(ReadLent {
+            slices,
+            count,
+            offset,
+            next: next_of(answer, code)?,
+            borrowed: PhantomData,
         })
     }
 

@@ -31,6 +31,22 @@ pub struct Conn {
 }
 
 #[repr(C)]
+pub struct Buffer {
+    pub live: u64,
+    pub at: *mut c_void,
+    pub data: *mut u8,
+    pub len: usize,
+}
+
+#[derive(Clone, Copy)]
+#[repr(C)]
+pub struct Slice {
+    pub memory: *const u8,
+    pub start: usize,
+    pub len: usize,
+}
+
+#[repr(C)]
 pub struct Config {
     pub size: u32,
     pub side: u32,
@@ -212,6 +228,32 @@ extern "C" {
         cap: usize,
         data: &mut *const u8,
         payload: &mut Payload,
+    ) -> i32;
+    pub fn qs_emit_buffer(
+        conn: &mut Conn,
+        parts: u32,
+        fair: u32,
+        cap: usize,
+        buffer: &mut Buffer,
+        payload: &mut Payload,
+    ) -> i32;
+    pub fn qs_receive_buffer(
+        conn: &mut Conn,
+        buffer: &mut Buffer,
+        len: usize,
+        next: &mut usize,
+        error: &mut Error,
+    ) -> i32;
+    pub fn qs_buffer_reserve(buffer: &mut Buffer, size: usize) -> i32;
+    pub fn qs_buffer_free(buffer: &mut Buffer);
+    pub fn qs_stream_read_lent(
+        conn: &mut Conn,
+        id: u64,
+        slices: *mut Slice,
+        max: usize,
+        count: &mut usize,
+        offset: &mut u64,
+        app_code: &mut u64,
     ) -> i32;
     pub fn qs_get_due(conn: &mut Conn, due: &mut Due) -> i32;
     pub fn qs_acked(conn: &mut Conn, token: u64) -> i32;

@@ -260,6 +260,14 @@ pub struct Payload {
     pub ends: bool,
 }
 
+pub(crate) fn payload_of(raw: &sys::Payload) -> Payload {
+    Payload {
+        len: raw.len as usize,
+        token: Token(raw.token),
+        ends: raw.ends != 0,
+    }
+}
+
 /// A payload that was written into memory of the library.
 #[derive(Clone, Copy, Debug, PartialEq, Eq)]
 pub struct Lent<'a> {

@@ -60,7 +60,7 @@ given-within w v id most ordered [] g = omega arith
 given-within w v id most ordered (c ∷ cs) (u, r, g) = omega (arith, given-within u v id most ordered cs g, r.reads.1.limit)
 
 -- and there are no more chunks than were asked for
-count-most : (times n : ℕ) (last : LastAnswer) → IsCountOf times last n → n ≤ times
+pub count-most : (times n : ℕ) (last : LastAnswer) → IsCountOf times last n → n ≤ times
 count-most times n last_answer.Blocked h = omega (arith, h)
 count-most times n last_answer.Ended h = omega (arith, h)
 count-most times n (last_answer.Reset code) h = omega (arith, h)

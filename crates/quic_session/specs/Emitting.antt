@@ -17,6 +17,7 @@ use Rattle.quic_streams.specs.Payload.{PayloadPlace, Entry, WritesKinds, WritesE
 use Rattle.quic_streams.specs.Transmitting.{WritesStreamFrames, GoesOnWithTurns, end_writer, told_bytes, with_turns}
 use Rattle.quic_endpoint.specs.Ends.{EndState}
 use Rattle.quic_session.specs.declared.session.Session.{Session}
+use Rattle.quic_session.specs.declared.buffer.Buffer.{Buffer}
 use Rattle.quic_session.specs.declared.emitting.Draft.{Draft}
 use Rattle.quic_session.specs.declared.emitting.Emitted.{Emitted}
 use Rattle.quic_session.specs.declared.emitting.Parts.{Parts}
@@ -158,21 +159,21 @@ EmitsPayload s parts fair out (Ok (Some e)) t new = WritesPayload parts fair s o
 EmitsPayload s parts fair out (Ok None) t new = (new ≡ out) × KeepsNone s t × WritesNothing (length out) parts fair s (Ok tt) t
 EmitsPayload s parts fair out (Err error) t new = (new ≡ out) × KeepsNone s t × (((end_of t ≡ end_of s) × (datagrams_view t ≡ datagrams_view s)) ⊎ WritesNothing (length out) parts fair s (Err error) t)
 
--- a payload of at most so many bytes is lent: it stands in the memory of the session. Nothing may stand behind it where it has
--- all these bytes, and data
-pub record IsLent (most : ℕ) (p : DraftView) (e : Emitted) (t : Session) : Type 0 where
-  pub stands : t.bytes.items ≡ p.bytes
+-- a payload of at most so many bytes is lent: it is what the memory has in which it stands. Nothing may stand behind it where it
+-- has all these bytes, and data
+pub record IsLent (most : ℕ) (p : DraftView) (e : Emitted) (held : List ℕ) : Type 0 where
+  pub stands : held ≡ p.bytes
   pub len : e.len ≡ length p.bytes
   pub ends : e.ends ≡ (nat_le most e.len && not (length p.streams == 0))
 
 -- a payload was written and is lent, and what is to be reported of it stands under its token
-pub record LendsPayload (most : ℕ) (parts : Parts) (fair : Bool) (s : Session) (e : Emitted) (t : Session) : Type 0 where
+pub record LendsPayload (most : ℕ) (parts : Parts) (fair : Bool) (s : Session) (e : Emitted) (t : Session) (held : List ℕ) : Type 0 where
   pub answer : Result (Unit {0}) OutOfMemory
   pub written : Writing
   pub writes : WritesParts most parts fair (blank s) answer written
   pub some : 0 < length written.payload.bytes
   pub within : (m : Made) (h : List Event) → From m h (end_of s).streams → length written.payload.bytes ≤ most
-  pub lent : IsLent most written.payload e t
+  pub lent : IsLent most written.payload e held
   pub sent : SentPayload
   pub keeps : KeepsNew (unsettled s.unsettled) s.unsettled.next sent e.token (unsettled t.unsettled) t.unsettled.next
   pub control : noted_in sent.control ≡ written.payload.control
@@ -180,10 +181,16 @@ pub record LendsPayload (most : ℕ) (parts : Parts) (fair : Bool) (s : Session)
   pub leaves : IsLeftAs written t
 
 -- what came of writing a payload that is lent
-abbrev pub EmitsLent : ℕ → Session → Parts → Bool → Result (Option Emitted) OutOfMemory → Session → Type 0
-EmitsLent most s parts fair (Ok (Some e)) t = LendsPayload most parts fair s e t
-EmitsLent most s parts fair (Ok None) t = KeepsNone s t × WritesNothing most parts fair s (Ok tt) t
-EmitsLent most s parts fair (Err error) t = KeepsNone s t × (((end_of t ≡ end_of s) × (datagrams_view t ≡ datagrams_view s)) ⊎ WritesNothing most parts fair s (Err error) t)
+abbrev pub EmitsLent : ℕ → Session → Parts → Bool → Result (Option Emitted) OutOfMemory → Session → List ℕ → Type 0
+EmitsLent most s parts fair (Ok (Some e)) t held = LendsPayload most parts fair s e t held
+EmitsLent most s parts fair (Ok None) t held = KeepsNone s t × WritesNothing most parts fair s (Ok tt) t
+EmitsLent most s parts fair (Err error) t held = KeepsNone s t × (((end_of t ≡ end_of s) × (datagrams_view t ≡ datagrams_view s)) ⊎ WritesNothing most parts fair s (Err error) t)
+
+-- a buffer stays where no payload was written into it
+abbrev pub KeepsBuffer : Result (Option Emitted) OutOfMemory → Buffer → Buffer → Type 0
+KeepsBuffer (Ok (Some e)) was now = Unit {0}
+KeepsBuffer (Ok None) was now = now ≡ was
+KeepsBuffer (Err error) was now = now ≡ was
 
 -- entries left what was pending, and streams had their turns: whatever history came before, it goes on with them
 pub record GoesOnWithFrames (most : ℕ) (fair : Bool) (w v : World) : Type 0 where

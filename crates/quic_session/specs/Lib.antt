@@ -1,5 +1,6 @@
 pub mod Datagrams
 pub mod Emitting
+pub mod Lending
 pub mod Places
 pub mod Reading
 pub mod Receiving

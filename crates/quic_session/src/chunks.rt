@@ -71,7 +71,7 @@ fn put_at(out: &mut [u8], at: usize, bytes: &[u8])
 }
 
 // Where the first of some chunks stands in the stream.
-fn offset_of_first(chunks: &[Chunk]) -> u64
+pub(crate) fn offset_of_first(chunks: &[Chunk]) -> u64
     ensures { result ≡ offset_of_first chunks.now }
 {
     match chunks.first() {

@@ -5,8 +5,9 @@ ghost use Rattle.std.specs.Vec.{vec_ptr};
 ghost use Rattle.quic_retransmits.specs.Pending.{nothing};
 ghost use Rattle.quic_session.specs.Sessions.{end_of, datagrams_view, beside_of};
 ghost use Rattle.quic_session.specs.Tokens.{unsettled, places, KeepsNew};
-ghost use Rattle.quic_session.specs.Emitting.{payload_of, writing_of, WritesControl, WritesDatagrams, WritesStreams, SendsOldest, AreSent, with_datagrams_sent, IfAsked, WritesParts, EmitsPayload, EmitsLent, IsLent, GoesOnWithFrames};
+ghost use Rattle.quic_session.specs.Emitting.{payload_of, writing_of, WritesControl, WritesDatagrams, WritesStreams, SendsOldest, AreSent, with_datagrams_sent, IfAsked, WritesParts, EmitsPayload, EmitsLent, KeepsBuffer, IsLent, GoesOnWithFrames};
 
+use crate::buffer::Buffer;
 use crate::session::Session;
 use quic_datagrams::DatagramState;
 use quic_streams::stats::FrameStats;
@@ -103,7 +104,7 @@ impl Session {
         parts: Parts,
         fair: bool,
     ) -> Result<Option<Emitted>, OutOfMemory>
-        ensures emits { EmitsLent max_size self.old parts fair result self.new }
+        ensures emits { EmitsLent max_size self.old parts fair result self.new self.new.bytes.items }
         ensures from { GoesOnWithFrames max_size fair (end_of self.old).streams (end_of self.new).streams }
         ensures conn { self.new.conn ≡ self.old.conn }
     {
@@ -119,10 +120,40 @@ impl Session {
         Ok(Some(self.lend(draft, max_size)))
     }
 
+    /// The same for a payload that stands in a buffer then, which gets its memory for its own. The buffer stays where there is
+    /// no payload.
+    pub fn emit_buffer(
+        &mut self,
+        buffer: &mut Buffer,
+        max_size: usize,
+        parts: Parts,
+        fair: bool,
+    ) -> Result<Option<Emitted>, OutOfMemory>
+        ensures emits { EmitsLent max_size self.old parts fair result self.new buffer.new.bytes.items }
+        ensures buffer { KeepsBuffer result buffer.old buffer.new }
+        ensures from { GoesOnWithFrames max_size fair (end_of self.old).streams (end_of self.new).streams }
+        ensures conn { self.new.conn ≡ self.old.conn }
+    {
+        let Some(emitted) = self.emit_lent(max_size, parts, fair)? else {
+            return Ok(None);
+        };
+        self.exchange(buffer);
+        Ok(Some(emitted))
+    }
+
+    // The payload that is lent and the bytes of a buffer change places.
+    fn exchange(&mut self, buffer: &mut Buffer)
+        ensures given { buffer.new.bytes ≡ self.old.bytes }
+        ensures end { end_of self.new ≡ end_of self.old }
+        ensures beside { beside_of self.new ≡ beside_of self.old }
+    {
+        mem::swap(&mut self.bytes, &mut buffer.bytes);
+    }
+
     // A payload is lent, and what is to be reported of it is kept under the next token.
     fn lend(&mut self, draft: Draft, max_size: usize) -> Emitted
         requires { 0 < places self.old.unsettled }
-        ensures lent { IsLent max_size (payload_of draft) result self.new }
+        ensures lent { IsLent max_size (payload_of draft) result self.new.bytes.items }
         ensures keeps { KeepsNew (unsettled self.old.unsettled) self.old.unsettled.next draft.sent result.token (unsettled self.new.unsettled) self.new.unsettled.next }
         ensures end { end_of self.new ≡ end_of self.old }
         ensures conn { self.new.conn ≡ self.old.conn }

@@ -3,9 +3,12 @@
 #![tactic(auto)]
 
 pub mod application;
+pub mod buffer;
 pub mod chunks;
 pub mod datagrams;
 pub mod emitting;
+pub mod lending;
+pub mod lent_bytes;
 mod memory;
 pub mod receiving;
 pub mod session;

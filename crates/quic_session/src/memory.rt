@@ -2,6 +2,7 @@
 
 ghost use Rattle.std.specs.Prelude.{◌≡◌, ◌≤◌, true};
 
+use crate::lent_bytes::LentBytes;
 use quic_assembler::Chunk;
 use quic_values::OutOfMemory;
 use quic_wire::Frame;
@@ -84,7 +85,7 @@ impl Model for PieceMemory {
 }
 
 impl PieceMemory {
-    ghost use Rattle.std.specs.Prelude.{◌≡◌, IfOk};
+    ghost use Rattle.std.specs.Prelude.{◌≡◌, ◌≤◌, IfOk, vec_capacity};
 
     // None.
     pub(crate) fn new(alloc: Global) -> Self
@@ -138,6 +139,27 @@ impl PieceMemory {
         }
     }
 
+    // Takes out the piece that was put in last, with any bytes, or else gives a vector without memory.
+    pub(crate) fn spare(&mut self, alloc: Global) -> Vec<u8>
+        ensures few { vec_capacity result ≤ 2048 }
+        ensures same { self.new ≡ self.old }
+    {
+        match self.list.pop() {
+            Some(piece) => piece,
+            None => Vec::new(alloc),
+        }
+    }
+
+    // Puts the memory of what was lent in. The list has none of it any more.
+    pub(crate) fn put_lent(&mut self, lent: &mut Vec<LentBytes>)
+        ensures same { self.new ≡ self.old }
+    {
+        for piece in lent.drain(..) {
+            let LentBytes { memory, .. } = piece;
+            self.put(memory);
+        }
+    }
+
     // Puts the memory of chunks in. The list has none of them any more.
     pub(crate) fn put_all(&mut self, chunks: &mut Vec<Chunk>)
         ensures same { self.new ≡ self.old }
@@ -167,6 +189,6 @@ fn room_for(size: usize) -> usize {
 }
 
 // Whether memory with so much room is fit for so many bytes: they have room in it, and leave little of it.
-fn is_fit(room: usize, size: usize) -> bool {
+pub(crate) fn is_fit(room: usize, size: usize) -> bool {
     size <= room && room / 6 <= size / 5
 }

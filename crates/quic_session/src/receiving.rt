@@ -1,6 +1,6 @@
 //! Frames and payloads of the peer that come to a session.
 
-ghost use Rattle.std.specs.Prelude.{List, ◌≡◌, ◌≤◌, ◌∷◌, ◌&&◌, true, false, not, max, All, OnOk, IfOk, IfErr};
+ghost use Rattle.std.specs.Prelude.{List, ◌≡◌, ◌≤◌, ◌∷◌, ◌&&◌, true, false, not, max, length, take, All, OnOk, IfOk, IfErr};
 ghost use Rattle.quic_wire.specs.Codes.{STREAM_STATE_ERROR};
 ghost use Rattle.quic_wire.specs.Frames.{IsFrameWithin};
 ghost use Rattle.quic_history.specs.World.{Made};
@@ -9,11 +9,14 @@ ghost use Rattle.quic_endpoint.specs.Receiving.{data_length, event_of, with_call
 ghost use Rattle.quic_session.specs.Sessions.{end_of, datagrams_view, beside_of};
 ghost use Rattle.quic_session.specs.Receiving.{KeepsDatagram, ReceivesFrame, ReceivesOnly, ReceivesPayload, ReceivesFrames, ReceivesFrom, payload_answer, is_misdirected, call_of};
 
+use crate::buffer::Buffer;
+use crate::memory::is_fit;
 use crate::session::Session;
 use quic_receiving::ShouldTransmit;
 use quic_values::{Bytes, Dir, OutOfMemory};
 use quic_wire::frame::{Datagram, StopSending};
 use quic_wire::{DecodeError, Frame, ReceiveError, TransportError, decode_owned_into};
+use std::mem;
 use thiserror::Error;
 
 /// Why a payload was not taken to its end.
@@ -47,15 +50,40 @@ impl Session {
         ensures receives { ReceivesPayload self.old payload.now first result self.new }
         ensures others { ReceivesOnly self.old self.new }
     {
-        let Ok(bytes) = self.pieces.copy_of(self.alloc, payload) else {
-            return Received {
+        match self.pieces.copy_of(self.alloc, payload) {
+            Ok(bytes) => self.receive_owned(bytes, first),
+            Err(_) => Received {
                 next: first,
                 answer: Err(PayloadError::OutOfMemory),
-            };
-        };
+            },
+        }
+    }
+
+    /// The same for the first `len` bytes of a buffer, whose memory is kept, and not copied, where the payload leaves at most
+    /// some fifth of it free. The buffer has other memory then, with any bytes. Where memory ran out, the payload may be gone.
+    pub fn receive_buffer(&mut self, buffer: &mut Buffer, len: usize, first: usize) -> Received
+        requires { len ≤ length buffer.old.bytes.items }
+        ensures receives { ReceivesPayload self.old (take len buffer.old.bytes.items) first result self.new }
+        ensures others { ReceivesOnly self.old self.new }
+    {
+        if !is_fit(buffer.bytes.capacity(), len) {
+            return self.receive(&buffer.bytes[..len], first);
+        }
+        let spare = self.pieces.spare(self.alloc);
+        let mut payload = mem::replace(&mut buffer.bytes, spare);
+        payload.truncate(len);
+        self.receive_owned(payload, first)
+    }
+
+    // The same, in the memory of the payload.
+    fn receive_owned(&mut self, payload: Vec<u8>, first: usize) -> Received
+        ensures receives { ReceivesPayload self.old payload.items first result self.new }
+        ensures others { ReceivesOnly self.old self.new }
+    {
         let list = self.frames.take(self.alloc);
-        match decode_owned_into(self.alloc, bytes, list) {
-            Ok(frames) => self.receive_frames(frames, payload.len(), first),
+        let payload_len = payload.len();
+        match decode_owned_into(self.alloc, payload, list) {
+            Ok(frames) => self.receive_frames(frames, payload_len, first),
             Err(DecodeError::Malformed) => Received {
                 next: first,
                 answer: Err(PayloadError::Malformed),

@@ -14,6 +14,7 @@ ghost use Rattle.quic_streams.specs.Waiting.{TellsEmpty};
 ghost use Rattle.quic_session.specs.Sessions.{end_of, beside_of, datagrams_view, no_datagrams};
 ghost use Rattle.quic_session.specs.Tokens.{unsettled};
 
+use crate::lent_bytes::LentBytes;
 use crate::memory::{FrameMemory, PieceMemory};
 use crate::unsettled::Unsettled;
 use quic_assembler::Chunk;
@@ -63,6 +64,8 @@ pub struct Session {
     pub(crate) chunks: Vec<Chunk>,
     pub(crate) frames: FrameMemory,
     pub(crate) pieces: PieceMemory,
+    // What the last read lent.
+    pub(crate) lent: Vec<LentBytes>,
     pub(crate) alloc: Global,
 }
 
@@ -102,6 +105,7 @@ impl Session {
             chunks: Vec::new(alloc),
             frames: FrameMemory::new(alloc),
             pieces: PieceMemory::new(alloc),
+            lent: Vec::new(alloc),
             alloc,
         })
     }

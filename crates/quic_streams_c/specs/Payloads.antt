@@ -48,7 +48,7 @@ TellsPlace (Err error) t was now = now ≡ was
 -- a payload of at most so many bytes is written, of these parts, and is lent
 pub record EmittingLent (s : Session) (parts : Parts) (fair : Bool) (most : ℕ) (code : ℤ) (t : Session) (was now : Ptr) (told told' : RawPayload) : Type 0 where
   pub answer : Result (Option Emitted) OutOfMemory
-  pub emits : EmitsLent most s parts fair answer t
+  pub emits : EmitsLent most s parts fair answer t t.bytes.items
   pub from : GoesOnWithFrames most fair (end_of s).streams (end_of t).streams
   pub conn : t.conn ≡ s.conn
   pub tells : TellsPayload answer code told told'

@@ -19,7 +19,9 @@ pub struct Handle {
 // A handle that is overwritten frees its session.
 impl Drop for Handle {
     fn drop(self) {
-        drop(self.into_session());
+        if let Some(session) = self.into_session() {
+            drop(session);
+        }
     }
 }
 

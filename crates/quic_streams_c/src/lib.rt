@@ -3,6 +3,8 @@
 #![tactic(auto)]
 
 mod application;
+mod buffer_slot;
+mod buffers;
 mod chunks;
 mod codes;
 mod connection;

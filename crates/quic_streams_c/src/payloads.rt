@@ -23,7 +23,7 @@ pub struct RawPayload {
 }
 
 // The parts of a number.
-fn parts_of(number: u32) -> Option<Parts>
+pub(crate) fn parts_of(number: u32) -> Option<Parts>
     ensures { result ≡ parts_at number }
 {
     if number > 0 && number < 8 {
@@ -140,7 +140,7 @@ fn tell_lent(
 }
 
 // What was written, or why nothing.
-fn tell_payload(answer: &Result<Option<Emitted>, OutOfMemory>, payload: &mut RawPayload) -> i32
+pub(crate) fn tell_payload(answer: &Result<Option<Emitted>, OutOfMemory>, payload: &mut RawPayload) -> i32
     ensures { TellsPayload answer.now result payload.old payload.new }
 {
     match answer {

@@ -75,7 +75,7 @@ fn receive(session: &mut Session, payload: &[u8], next: &mut usize, error: &mut 
 }
 
 // What came of a payload.
-fn tell_received(answer: &Result<(), PayloadError>, error: &mut RawError) -> i32
+pub(crate) fn tell_received(answer: &Result<(), PayloadError>, error: &mut RawError) -> i32
     ensures { TellsReceived answer.now result error.old error.new }
 {
     match answer {

@@ -1,0 +1,34 @@
+//! A buffer that a host outside of Rattle reads and writes between calls.
+
+ghost use Rattle.std.specs.Prelude.{◌≡◌, ◌++◌, ◌-◌, [], length, replicate, OnOk, OnErr};
+
+use quic_values::OutOfMemory;
+use std::alloc::Global;
+
+/// The bytes of one payload: of one that was written, or is to come.
+#[derive(Drop)]
+pub struct Buffer {
+    pub bytes: Vec<u8>,
+}
+
+impl Buffer {
+    /// One without bytes.
+    pub fn new(alloc: Global) -> Self
+        ensures { result.bytes.items ≡ [] }
+    {
+        Buffer {
+            bytes: Vec::new(alloc),
+        }
+    }
+
+    /// Makes it at least so long. What it has stays, and zeros are put behind.
+    pub fn reserve(&mut self, size: usize) -> Result<(), OutOfMemory>
+        ensures ok { OnOk result (self.new.bytes.items ≡ self.old.bytes.items ++ replicate (size - length self.old.bytes.items) 0) }
+        ensures err { OnErr result (self.new.bytes.items ≡ self.old.bytes.items) }
+    {
+        if self.bytes.len() < size {
+            self.bytes.resize(size, 0)?;
+        }
+        Ok(())
+    }
+}

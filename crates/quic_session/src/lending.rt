@@ -1,0 +1,103 @@
+//! Reads whose bytes are lent: they stay in the memory in which they came.
+
+ghost use Rattle.std.specs.Prelude.{◌≡◌, ◌≤◌, ◌+◌, [], true, length, map, vec_len, vec_capacity};
+ghost use Rattle.quic_session.specs.Sessions.{end_of, beside_of};
+ghost use Rattle.quic_session.specs.Lending.{lent_bytes, lends_for, ReadsLent};
+
+use crate::application::ReadInto;
+use crate::chunks::offset_of_first;
+use crate::lent_bytes::LentBytes;
+use crate::session::Session;
+use quic_assembler::Chunk;
+use quic_receiving::ReadableError;
+use quic_values::StreamId;
+use std::mem;
+
+impl LentBytes {
+    /// How many bytes these are.
+    pub fn len(&self) -> usize
+        ensures { result ≡ length (lent_bytes self.now) }
+    {
+        self.memory.len() - self.start
+    }
+}
+
+#[tactic(auto, unfolding(crate::specs::Sessions::end_of))]
+impl Session {
+    /// Reads the next bytes of a stream in order, of at most `most` chunks as they came, and of at most 64. They are lent:
+    /// they stay in their memory, at [`Session::lent_bytes`], until the next call. The answer counts the chunks. One call
+    /// may give bytes and tell that they are the last, or that no more are at hand.
+    pub fn read_lent(&mut self, id: StreamId, most: usize) -> Result<ReadInto, ReadableError>
+        ensures reads { ReadsLent self.old id most result self.new }
+        ensures beside { beside_of self.new ≡ beside_of self.old }
+    {
+        if !self.streams.was_given(id) {
+            return Err(ReadableError::ClosedStream);
+        }
+        let mut lent = self.take_back();
+        let times = lends_for(most);
+        if !has_room(&mut lent, times as usize) {
+            return Err(ReadableError::OutOfMemory);
+        }
+        let list = mem::replace(&mut self.chunks, Vec::new(self.alloc));
+        let some = self.read_given(id, true, usize::MAX, times, list)?;
+        let offset = offset_of_first(&some.chunks);
+        let last = some.last;
+        self.chunks = lend_all(some.chunks, &mut lent);
+        let count = lent.len();
+        self.lent = lent;
+        Ok(ReadInto {
+            count,
+            offset,
+            last,
+        })
+    }
+
+    /// What the last read lent.
+    pub fn lent_bytes(&self) -> &[LentBytes]
+        ensures { result.now ≡ self.now.lent.items }
+    {
+        self.lent.as_slice()
+    }
+
+    // The memory of what was lent is used again. Gives the list of it, without any.
+    fn take_back(&mut self) -> Vec<LentBytes>
+        ensures none { result.items ≡ [] }
+        ensures end { end_of self.new ≡ end_of self.old }
+        ensures beside { beside_of self.new ≡ beside_of self.old }
+    {
+        let mut lent = mem::replace(&mut self.lent, Vec::new(self.alloc));
+        self.pieces.put_lent(&mut lent);
+        lent.clear();
+        lent
+    }
+}
+
+// How many chunks are asked for at most, where so many may be lent.
+fn lends_for(most: usize) -> u16
+    ensures { result ≡ lends_for most }
+{
+    most.min(64) as u16
+}
+
+// Whether a list has room for so many more.
+fn has_room(lent: &mut Vec<LentBytes>, count: usize) -> bool
+    ensures items { lent.new.items ≡ lent.old.items }
+    ensures room { result ≡ true → vec_len lent.new + count ≤ vec_capacity lent.new }
+{
+    lent.reserve(count).is_ok()
+}
+
+// Chunks are put into a list of what is lent, which has room for them. Gives the memory of their own list.
+fn lend_all(chunks: Vec<Chunk>, lent: &mut Vec<LentBytes>) -> Vec<Chunk>
+    requires none { lent.old.items ≡ [] }
+    requires room { vec_len lent.old + vec_len chunks ≤ vec_capacity lent.old }
+    ensures { map lent_bytes lent.new.items ≡ map (λ c. c.bytes) chunks.items }
+{
+    let mut list = chunks;
+    for chunk in list.drain(..) {
+        let (memory, start) = chunk.bytes.into_parts();
+        lent.push_reserved(LentBytes { memory, start });
+    }
+    list
+}

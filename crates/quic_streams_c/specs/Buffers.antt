@@ -1,0 +1,84 @@
+-- Buffers that C holds.
+use Rattle.std.specs.Prelude.{ℕ, ℤ, Bool, true, false, pos, negsuc, ◌≡◌, ◌==◌, ◌⊎◌, ◌++◌, ◌-◌, not, nat_lt, List, [], length, replicate, take, Option, Some, None, Result, vec_len}
+use denote.RawPtr.{Ptr}
+use Rattle.std.specs.Vec.{vec_ptr}
+use Rattle.quic_values.specs.declared.memory.OutOfMemory.{OutOfMemory}
+use Rattle.quic_session.specs.declared.session.Session.{Session}
+use Rattle.quic_session.specs.declared.buffer.Buffer.{Buffer}
+use Rattle.quic_session.specs.declared.emitting.Emitted.{Emitted}
+use Rattle.quic_session.specs.declared.emitting.Parts.{Parts}
+use Rattle.quic_session.specs.Sessions.{end_of}
+use Rattle.quic_session.specs.Emitting.{EmitsLent, KeepsBuffer, GoesOnWithFrames}
+use Rattle.quic_streams_c.specs.declared.payloads.RawPayload.{RawPayload}
+use Rattle.quic_streams_c.specs.declared.peer.RawError.{RawError}
+use Rattle.quic_streams_c.specs.Calls.{Refuses, WithNumber}
+use Rattle.quic_streams_c.specs.Frames.{ReceivesRaw}
+use Rattle.quic_streams_c.specs.Payloads.{parts_at, TellsPayload}
+
+-- what C holds: the buffer, and where its bytes stand and how many they are
+pub record Held : Type 0 where
+  pub value : Option Buffer
+  pub data : Ptr
+  pub len : ℕ
+
+-- C is shown where the bytes stand, and how many they are
+abbrev pub IsShown : Option Buffer → Ptr → ℕ → Type 0
+IsShown None data len = Unit {0}
+IsShown (Some b) data len = (data ≡ vec_ptr b.bytes) × (len ≡ length b.bytes.items)
+
+-- the bytes of a buffer; one that is closed has none
+abbrev pub bytes_of : Option Buffer → List ℕ
+bytes_of None = []
+bytes_of (Some b) = b.bytes.items
+
+-- a buffer is open, and has at least so many bytes: those that it had, and zeros behind them
+abbrev pub IsReserved : Option Buffer → ℕ → Option Buffer → Type 0
+IsReserved old size None = ⊥
+IsReserved old size (Some b) = b.bytes.items ≡ bytes_of old ++ replicate (size - length (bytes_of old)) 0
+
+-- one stays closed, or keeps its bytes
+abbrev pub KeepsBytes : Option Buffer → Option Buffer → Type 0
+KeepsBytes None new = new ≡ None
+KeepsBytes (Some b) None = ⊥
+KeepsBytes (Some b) (Some d) = d.bytes.items ≡ b.bytes.items
+
+-- qs_buffer_reserve
+abbrev pub ReservesRaw : Option Buffer → ℕ → ℤ → Held → Type 0
+ReservesRaw old size code new = (((code ≡ pos 0) × IsReserved old size new.value) ⊎ ((code ≡ negsuc 1) × KeepsBytes old new.value)) × IsShown new.value new.data new.len
+
+-- a payload of at most so many bytes is written into a buffer, of these parts
+pub record EmittingHeld (s : Session) (parts : Parts) (fair : Bool) (most : ℕ) (b : Buffer) (code : ℤ) (t : Session) (d : Buffer) (was now : RawPayload) : Type 0 where
+  pub answer : Result (Option Emitted) OutOfMemory
+  pub emits : EmitsLent most s parts fair answer t d.bytes.items
+  pub buffer : KeepsBuffer answer b d
+  pub from : GoesOnWithFrames most fair (end_of s).streams (end_of t).streams
+  pub conn : t.conn ≡ s.conn
+  pub tells : TellsPayload answer code was now
+
+abbrev pub EmitsHeld : Session → ℕ → ℕ → ℕ → Buffer → ℤ → Session → Buffer → RawPayload → RawPayload → Type 0
+EmitsHeld s parts fair most b code t d was now = WithNumber (parts_at parts) (Refuses s code t × (d ≡ b) × (now ≡ was)) (λ p. EmittingHeld s p (not (fair == 0)) most b code t d was now)
+
+-- a call on a buffer: of a closed one the answer is QS_ERR_CLOSED, and nothing changes
+abbrev pub WithBuffer : Session → Option Buffer → ℤ → Session → Held → Type 0 → (Buffer → Buffer → Type 0) → Type 0
+WithBuffer s None code t new Keeps Does = (code ≡ negsuc 0) × (t ≡ s) × (new.value ≡ None) × Keeps
+WithBuffer s (Some b) code t new Keeps Does = by-new new.value
+  where
+    by-new : Option Buffer → Type 0
+    by-new None = ⊥
+    by-new (Some d) = Does b d × IsShown (Some d) new.data new.len
+
+-- qs_emit_buffer
+abbrev pub EmitsBufferRaw : Session → ℕ → ℕ → ℕ → Option Buffer → ℤ → Session → Held → RawPayload → RawPayload → Type 0
+EmitsBufferRaw s parts fair most old code t new was now = WithBuffer s old code t new (now ≡ was) (λ b d. EmitsHeld s parts fair most b code t d was now)
+
+-- the payload is the first bytes of a buffer, if it has so many
+abbrev pub ReceivesHeld : Session → Buffer → ℕ → ℕ → ℤ → Session → Buffer → ℕ → RawError → RawError → Type 0
+ReceivesHeld s b size first code t d next was now = by-size (nat_lt (length b.bytes.items) size)
+  where
+    by-size : Bool → Type 0
+    by-size true = Refuses s code t × (d ≡ b) × (next ≡ first) × (now ≡ was)
+    by-size false = ReceivesRaw s (take size b.bytes.items) first code t next was now
+
+-- qs_receive_buffer
+abbrev pub ReceivesBufferRaw : Session → Option Buffer → ℕ → ℕ → ℤ → Session → Held → ℕ → RawError → RawError → Type 0
+ReceivesBufferRaw s old size first code t new next was now = WithBuffer s old code t new ((next ≡ first) × (now ≡ was)) (λ b d. ReceivesHeld s b size first code t d next was now)
