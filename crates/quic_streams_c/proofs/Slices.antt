@@ -1,8 +1,13 @@
 -- Slices that are put one after another.
-use Rattle.std.proofs.Common.{◌≡◌, ◌+◌, ◌<◌, ◌≤◌, ℕ, List, [], ◌∷◌, ◌++◌, length, take, drop, get_or, sym, ap, ◌∙◌, arith}
-use Rattle.std.specs.Prelude.{map, slice_set}
+use Rattle.std.proofs.Common.{◌≡◌, ◌+◌, ◌<◌, ◌≤◌, ℕ, List, [], ◌∷◌, ◌++◌, length, take, drop, get_or, Result, Ok, Err, sym, ap, ◌∙◌, arith}
+use Rattle.std.specs.Prelude.{map, slice_set, OnOk}
 use Rattle.std.proofs.lemmas.List.{append_assoc, drop_more, length-append, length-drop, length-map, length-take, map_more, set_at}
+use Rattle.quic_assembler.specs.declared.chunk.Chunk.{Chunk}
+use Rattle.quic_receiving.specs.declared.errors.ReadableError.{ReadableError}
+use Rattle.quic_session.specs.declared.session.Session.{Session}
+use Rattle.quic_session.specs.declared.application.ReadInto.{ReadInto}
 use Rattle.quic_session.specs.declared.lent_bytes.LentBytes.{LentBytes}
+use Rattle.quic_session.specs.Lending.{lent_bytes, ReadsLent}
 use Rattle.quic_streams_c.specs.declared.chunks.RawSlice.{RawSlice}
 use Rattle.quic_streams_c.specs.Slices.{raw_slice}
 
@@ -24,3 +29,10 @@ put-step lent first now i x inside fits is h =
     let y = raw_slice x in
     ap (λ l. slice_set l i y) (h ∙ ap (λ l. front ++ l) (drop_more first i y (omega arith))) ∙ set_at front _ _ y i long ∙ sym (append_assoc front (y ∷ []) _)
     ∙ ap (λ l. l ++ drop (i + 1) first) (ap (λ z. front ++ raw_slice z ∷ []) is ∙ sym (map_more raw_slice lent i x inside))
+
+-- no more is lent than there are slices
+pub lends-few : (s : Session) (id most : ℕ) (answer : Result ReadInto ReadableError) (t : Session) → ReadsLent s id most answer t → OnOk answer (length t.lent.items ≤ most)
+lends-few s id most (Ok r) t reads =
+    let as-chunks : length t.lent.items ≡ length reads.chunks = sym (length-map t.lent.items lent_bytes) ∙ ap length reads.lent ∙ length-map reads.chunks (λ (c : Chunk). c.bytes) in
+    omega (arith, as-chunks, reads.few)
+lends-few s id most (Err error) t reads = tt

@@ -18,13 +18,13 @@ use Rattle.quic_streams_c.specs.Payloads.{parts_at, TellsPayload}
 -- what C holds: the buffer, and where its bytes stand and how many they are
 pub record Held : Type 0 where
   pub value : Option Buffer
-  pub data : Ptr
+  pub bytes : Ptr
   pub len : ℕ
 
 -- C is shown where the bytes stand, and how many they are
 abbrev pub IsShown : Option Buffer → Ptr → ℕ → Type 0
-IsShown None data len = Unit {0}
-IsShown (Some b) data len = (data ≡ vec_ptr b.bytes) × (len ≡ length b.bytes.items)
+IsShown None bytes len = Unit {0}
+IsShown (Some b) bytes len = (bytes ≡ vec_ptr b.bytes) × (len ≡ length b.bytes.items)
 
 -- the bytes of a buffer; one that is closed has none
 abbrev pub bytes_of : Option Buffer → List ℕ
@@ -44,7 +44,7 @@ KeepsBytes (Some b) (Some d) = d.bytes.items ≡ b.bytes.items
 
 -- qs_buffer_reserve
 abbrev pub ReservesRaw : Option Buffer → ℕ → ℤ → Held → Type 0
-ReservesRaw old size code new = (((code ≡ pos 0) × IsReserved old size new.value) ⊎ ((code ≡ negsuc 1) × KeepsBytes old new.value)) × IsShown new.value new.data new.len
+ReservesRaw old size code new = (((code ≡ pos 0) × IsReserved old size new.value) ⊎ ((code ≡ negsuc 1) × KeepsBytes old new.value)) × IsShown new.value new.bytes new.len
 
 -- a payload of at most so many bytes is written into a buffer, of these parts
 pub record EmittingHeld (s : Session) (parts : Parts) (fair : Bool) (most : ℕ) (b : Buffer) (code : ℤ) (t : Session) (d : Buffer) (was now : RawPayload) : Type 0 where
@@ -65,7 +65,7 @@ WithBuffer s (Some b) code t new Keeps Does = by-new new.value
   where
     by-new : Option Buffer → Type 0
     by-new None = ⊥
-    by-new (Some d) = Does b d × IsShown (Some d) new.data new.len
+    by-new (Some d) = Does b d × IsShown (Some d) new.bytes new.len
 
 -- qs_emit_buffer
 abbrev pub EmitsBufferRaw : Session → ℕ → ℕ → ℕ → Option Buffer → ℤ → Session → Held → RawPayload → RawPayload → Type 0

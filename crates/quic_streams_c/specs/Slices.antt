@@ -25,7 +25,7 @@ pub record LentView : Type 0 where
 
 -- the slices are those of what is lent, and the others stay
 abbrev pub PutsSlices : Result ReadInto ReadableError → Session → List RawSlice → List RawSlice → Type 0
-PutsSlices (Ok r) t was now = now ≡ map raw_slice t.lent.items ++ drop r.count was
+PutsSlices (Ok r) t was now = now ≡ map raw_slice t.lent.items ++ drop (length t.lent.items) was
 PutsSlices (Err error) t was now = now ≡ was
 
 -- a stream is read for several chunks, which are lent

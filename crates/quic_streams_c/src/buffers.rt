@@ -22,7 +22,7 @@ use std::mem::replace;
 pub struct RawBuffer {
     pub live: u64,
     pub slot: BufferSlot,
-    pub data: *mut u8,
+    pub bytes: *mut u8,
     pub len: usize,
     ghost tied: { (live ≡ 1) ↔ IsSome slot.value },
 }
@@ -41,7 +41,12 @@ impl RawBuffer {
     fn into_buffer(self) -> Option<Box<Buffer>>
         ensures { MatchOption result (self.slot.value ≡ None) (λ b. self.slot.value ≡ Some b.value) }
     {
-        let RawBuffer { live, slot, .. } = self;
+        let RawBuffer {
+            live,
+            slot,
+            bytes: _bytes,
+            len: _len,
+        } = self;
         if live == 1 {
             Some(slot.into_box())
         } else {
@@ -57,7 +62,7 @@ fn no_buffer(alloc: Global) -> RawBuffer
     RawBuffer {
         live: 0,
         slot: BufferSlot::empty(alloc),
-        data: std::ptr::null_mut(),
+        bytes: std::ptr::null_mut(),
         len: 0,
     }
 }
@@ -65,15 +70,15 @@ fn no_buffer(alloc: Global) -> RawBuffer
 // One that has a buffer, and shows where its bytes stand.
 fn showing(buffer: Box<Buffer>) -> RawBuffer
     ensures holds { result.slot.value ≡ Some buffer.value }
-    ensures shows { IsShown (Some buffer.value) result.data result.len }
+    ensures shows { IsShown (Some buffer.value) result.bytes result.len }
 {
     let mut buffer = buffer;
     let len = buffer.bytes.len();
-    let data = buffer.bytes.as_mut_ptr();
+    let bytes = buffer.bytes.as_mut_ptr();
     RawBuffer {
         live: 1,
         slot: BufferSlot::of(buffer),
-        data,
+        bytes,
         len,
     }
 }
@@ -89,7 +94,7 @@ fn take_buffer(alloc: Global, raw: &mut RawBuffer) -> Option<Box<Buffer>>
 /// Makes a buffer at least so long. One that is closed is opened.
 #[unsafe(no_mangle)]
 pub extern "C" fn qs_buffer_reserve(alloc: Global, buffer: &mut RawBuffer, size: usize) -> i32
-    ensures { ReservesRaw buffer.old.slot.value size result (record { value = buffer.new.slot.value; data = buffer.new.data; len = buffer.new.len }) }
+    ensures { ReservesRaw buffer.old.slot.value size result (record { value = buffer.new.slot.value; bytes = buffer.new.bytes; len = buffer.new.len }) }
 {
     match take_buffer(alloc, buffer) {
         None => open_buffer(alloc, buffer, size),
@@ -104,7 +109,7 @@ pub extern "C" fn qs_buffer_reserve(alloc: Global, buffer: &mut RawBuffer, size:
 // One that is closed is opened.
 fn open_buffer(alloc: Global, buffer: &mut RawBuffer, size: usize) -> i32
     requires { buffer.old.slot.value ≡ None }
-    ensures { ReservesRaw None size result (record { value = buffer.new.slot.value; data = buffer.new.data; len = buffer.new.len }) }
+    ensures { ReservesRaw None size result (record { value = buffer.new.slot.value; bytes = buffer.new.bytes; len = buffer.new.len }) }
 {
     match new_buffer(alloc, size) {
         Ok(held) => {
@@ -156,7 +161,7 @@ pub extern "C" fn qs_emit_buffer(
     buffer: &mut RawBuffer,
     payload: &mut RawPayload,
 ) -> i32
-    ensures { Calls handle.old.slot.value result handle.new.slot.value ((buffer.new.slot.value ≡ buffer.old.slot.value) × (payload.new ≡ payload.old)) (λ s t. EmitsBufferRaw s parts fair cap buffer.old.slot.value result t (record { value = buffer.new.slot.value; data = buffer.new.data; len = buffer.new.len }) payload.old payload.new) }
+    ensures { Calls handle.old.slot.value result handle.new.slot.value ((buffer.new.slot.value ≡ buffer.old.slot.value) × (payload.new ≡ payload.old)) (λ s t. EmitsBufferRaw s parts fair cap buffer.old.slot.value result t (record { value = buffer.new.slot.value; bytes = buffer.new.bytes; len = buffer.new.len }) payload.old payload.new) }
 {
     match take_out(alloc, handle) {
         None => CLOSED,
@@ -178,7 +183,7 @@ fn emit_buffer(
     buffer: &mut RawBuffer,
     payload: &mut RawPayload,
 ) -> i32
-    ensures { EmitsBufferRaw session.old parts fair cap buffer.old.slot.value result session.new (record { value = buffer.new.slot.value; data = buffer.new.data; len = buffer.new.len }) payload.old payload.new }
+    ensures { EmitsBufferRaw session.old parts fair cap buffer.old.slot.value result session.new (record { value = buffer.new.slot.value; bytes = buffer.new.bytes; len = buffer.new.len }) payload.old payload.new }
 {
     match take_buffer(alloc, buffer) {
         None => CLOSED,
@@ -218,7 +223,7 @@ pub extern "C" fn qs_receive_buffer(
     next: &mut usize,
     error: &mut RawError,
 ) -> i32
-    ensures { Calls handle.old.slot.value result handle.new.slot.value ((buffer.new.slot.value ≡ buffer.old.slot.value) × (next.new ≡ next.old) × (error.new ≡ error.old)) (λ s t. ReceivesBufferRaw s buffer.old.slot.value len next.old result t (record { value = buffer.new.slot.value; data = buffer.new.data; len = buffer.new.len }) next.new error.old error.new) }
+    ensures { Calls handle.old.slot.value result handle.new.slot.value ((buffer.new.slot.value ≡ buffer.old.slot.value) × (next.new ≡ next.old) × (error.new ≡ error.old)) (λ s t. ReceivesBufferRaw s buffer.old.slot.value len next.old result t (record { value = buffer.new.slot.value; bytes = buffer.new.bytes; len = buffer.new.len }) next.new error.old error.new) }
 {
     match take_out(alloc, handle) {
         None => CLOSED,
@@ -239,7 +244,7 @@ fn receive_buffer(
     next: &mut usize,
     error: &mut RawError,
 ) -> i32
-    ensures { ReceivesBufferRaw session.old buffer.old.slot.value len next.old result session.new (record { value = buffer.new.slot.value; data = buffer.new.data; len = buffer.new.len }) next.new error.old error.new }
+    ensures { ReceivesBufferRaw session.old buffer.old.slot.value len next.old result session.new (record { value = buffer.new.slot.value; bytes = buffer.new.bytes; len = buffer.new.len }) next.new error.old error.new }
 {
     match take_buffer(alloc, buffer) {
         None => CLOSED,

@@ -1,10 +1,10 @@
 //! Reads of several chunks in one call.
 
-ghost use Rattle.std.specs.Prelude.{◌≡◌, ◌≤◌, ◌++◌, Ok, length, map, drop};
+ghost use Rattle.std.specs.Prelude.{◌≡◌, ◌≤◌, ◌++◌, Ok, OnOk, length, map, drop};
 ghost use Rattle.quic_streams_c.specs.Answers.{TellsMany};
 ghost use Rattle.quic_streams_c.specs.Calls.{Calls};
 ghost use Rattle.quic_streams_c.specs.Streams.{ReadsManyRaw};
-ghost use Rattle.quic_streams_c.specs.Slices.{raw_slice, ReadsLentRaw};
+ghost use Rattle.quic_streams_c.specs.Slices.{raw_slice, PutsSlices, ReadsLentRaw};
 
 use crate::codes::{ARGUMENT, CLOSED, TOO_SMALL, code_of_many, code_of_readable, stream_of};
 use crate::handle::{Handle, holding, take_out};
@@ -133,10 +133,23 @@ fn read_lent(
         return TOO_SMALL;
     }
     let answer = session.read_lent(id, slices.len());
-    if answer.is_ok() {
-        put_slices(session.lent_bytes(), slices);
-    }
+    show_lent(&answer, session, slices);
     tell_many(&answer, count, offset, app_code)
+}
+
+// Where the bytes of a read that lends stand is put into the first slices.
+fn show_lent(
+    answer: &Result<ReadInto, ReadableError>,
+    session: &Session,
+    slices: &mut [RawSlice],
+)
+    requires { OnOk answer.now (length session.now.lent.items ≤ length slices.old) }
+    ensures { PutsSlices answer.now session.now slices.old slices.new }
+{
+    match answer {
+        Ok(_) => put_slices(session.lent_bytes(), slices),
+        Err(_) => {}
+    }
 }
 
 // Where what is lent stands is put into the first slices.
