@@ -23,7 +23,7 @@ use std::slice::{from_raw_parts, from_raw_parts_mut};
 /// # client.send_stream(id).write(b"hello")?;
 /// let mut buffer = Buffer::new();
 /// let payload = client.emit_buffer(&mut buffer, 1200, Emit::default())?.expect("data are due");
-/// assert_eq!(&buffer[..], b"\x08\x02hello");
+/// assert_eq!(&buffer[..], b"\x0a\x02\x05hello");
 /// server.receive_buffer(&mut buffer, payload.len)?;
 ///
 /// buffer.reserve(1500)?; // for the next packet

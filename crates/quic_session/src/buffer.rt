@@ -2,6 +2,7 @@
 
 ghost use Rattle.std.specs.Prelude.{◌≡◌, ◌++◌, ◌-◌, [], length, replicate, OnOk, OnErr};
 
+use crate::memory::room_for;
 use quic_values::OutOfMemory;
 use std::alloc::Global;
 
@@ -26,7 +27,9 @@ impl Buffer {
         ensures ok { OnOk result (self.new.bytes.items ≡ self.old.bytes.items ++ replicate (size - length self.old.bytes.items) 0) }
         ensures err { OnErr result (self.new.bytes.items ≡ self.old.bytes.items) }
     {
-        if self.bytes.len() < size {
+        let len = self.bytes.len();
+        if len < size {
+            self.bytes.reserve_exact(room_for(size) - len)?;
             self.bytes.resize(size, 0)?;
         }
         Ok(())

@@ -8,6 +8,7 @@ ghost use Rattle.quic_session.specs.Tokens.{unsettled, places, KeepsNew};
 ghost use Rattle.quic_session.specs.Emitting.{payload_of, writing_of, WritesControl, WritesDatagrams, WritesStreams, SendsOldest, AreSent, with_datagrams_sent, IfAsked, WritesParts, EmitsPayload, EmitsLent, KeepsBuffer, IsLent, GoesOnWithFrames};
 
 use crate::buffer::Buffer;
+use crate::memory::{is_kept, room_for};
 use crate::session::Session;
 use quic_datagrams::DatagramState;
 use quic_streams::stats::FrameStats;
@@ -47,12 +48,16 @@ pub(crate) struct Draft {
 }
 
 impl Draft {
-    // One without frames, in the memory of one that was sent.
-    fn new(alloc: Global, memory: Vec<u8>) -> Self
+    // One without frames, in the memory of one that was sent. That is made fit for so many bytes, if these are few and there
+    // is memory.
+    fn new(alloc: Global, memory: Vec<u8>, max_size: usize) -> Self
         ensures { payload_of result ≡ record { bytes = []; control = nothing; streams = [] } }
     {
         let mut bytes = memory;
         bytes.clear();
+        if bytes.capacity() < max_size && is_kept(max_size) {
+            let _ = bytes.reserve_exact(room_for(max_size));
+        }
         Draft {
             bytes,
             sent: SentPayload {
@@ -110,7 +115,7 @@ impl Session {
     {
         self.unsettled.reserve()?;
         let memory = mem::replace(&mut self.bytes, Vec::new(self.alloc));
-        let mut draft = Draft::new(self.alloc, memory);
+        let mut draft = Draft::new(self.alloc, memory, max_size);
         let answer = self.write_parts(&mut draft, max_size, parts, fair);
         if draft.bytes.is_empty() {
             self.bytes = draft.bytes;

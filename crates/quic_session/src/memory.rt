@@ -172,7 +172,7 @@ impl PieceMemory {
 }
 
 // Whether a piece of so many bytes is one to be kept.
-fn is_kept(room: usize) -> bool
+pub(crate) fn is_kept(room: usize) -> bool
     ensures { result ≡ true → room ≤ 2048 }
 {
     LEAST_ROOM <= room && room <= MOST_ROOM
@@ -180,7 +180,9 @@ fn is_kept(room: usize) -> bool
 
 // How much room memory gets that is taken anew for so many bytes: a little more than for these, if it may be kept, so that it
 // is fit for bytes of almost the same length, too.
-fn room_for(size: usize) -> usize {
+pub(crate) fn room_for(size: usize) -> usize
+    ensures { size ≤ result }
+{
     if is_kept(size) {
         (size + 63) / 64 * 64
     } else {
