@@ -1,14 +1,13 @@
 -- Frames of a payload that were taken from a place on.
-use Rattle.std.proofs.Common.{◌≡◌, ℕ, ◌+◌, ◌-◌, ◌<◌, ◌≤◌, ◌⊎◌, inl, inr, Bool, true, false, List, [], ◌∷◌, ◌++◌, length, drop, take, get_or, suc, drop-cons, Result, Ok, Err, refl, sym, ap, ◌∙◌, subst, arith, rules}
+use Rattle.std.proofs.Common.{◌≡◌, ℕ, ◌+◌, ◌<◌, ◌≤◌, inl, inr, Bool, true, false, List, [], ◌∷◌, ◌++◌, length, drop, Result, Ok, Err, refl, sym, ap, ◌∙◌, subst, arith}
 use Rattle.std.specs.Prelude.{map}
 use Rattle.std.proofs.Math.ListN.{drop_of_length-le}
-use Rattle.std.proofs.lemmas.List.{drop-append-le, map-append, length-map, length-drop, length_push, take-append-drop}
+use Rattle.std.proofs.lemmas.List.{drop-append-le, map-append, length-map, length-drop, length_push}
 use Rattle.std.proofs.lemmas.Bool.{false≢true}
 use Rattle.quic_wire.specs.declared.frame.Frame.{Frame}
 use Rattle.quic_session.specs.declared.session.Session.{Session}
-use Rattle.quic_session.specs.declared.receiving.Received.{Received}
 use Rattle.quic_session.specs.declared.receiving.PayloadError.{PayloadError}
-use Rattle.quic_session.specs.Receiving.{FrameCall, TakesFrames, none, more, ReceivesFrom, PassesOverFrame, TakesOne, TakesAll, StopsAtRefused}
+use Rattle.quic_session.specs.Receiving.{FrameCall, TakesFrames, none, more, ReceivesFrom, TakesAll, StopsAtRefused}
 
 -- of the frames so far, those from a place on were taken
 pub record Past (size first : ℕ) (s : Session) (seen : List Frame) (t : Session) : Type 0 where

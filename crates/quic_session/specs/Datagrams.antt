@@ -1,5 +1,5 @@
 -- Why a session queues no datagram.
-use Rattle.std.specs.Prelude.{ℕ, ◌≡◌, Bool, true, List, Option, Some, None}
+use Rattle.std.specs.Prelude.{ℕ, ◌≡◌, Bool, true, List, Option, Some}
 use Rattle.quic_datagrams.specs.declared.datagrams.DatagramState.{DatagramState}
 use Rattle.quic_datagrams.specs.declared.datagrams.SendDatagramError.{SendDatagramError}
 use Rattle.quic_datagrams.specs.declared.datagrams.SendDatagramError.TheVariants as send_error

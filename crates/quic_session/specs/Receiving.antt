@@ -15,7 +15,7 @@ use Rattle.quic_datagrams.specs.Queue.{cost, total_cost, with_newest, IsReceiveR
 use Rattle.quic_outgoing.specs.Outgoing.{own_of}
 use Rattle.quic_history.specs.World.{World, is_own}
 use Rattle.quic_history.specs.History.{Event}
-use Rattle.quic_endpoint.specs.Receiving.{ReceivesAt, AccountsFrame, data_length, event_of, with_call_made}
+use Rattle.quic_endpoint.specs.Receiving.{ReceivesAt, AccountsFrame, event_of, with_call_made}
 use Rattle.quic_session.specs.declared.session.Session.{Session}
 use Rattle.quic_session.specs.declared.receiving.Received.{Received}
 use Rattle.quic_session.specs.declared.receiving.PayloadError.{PayloadError}

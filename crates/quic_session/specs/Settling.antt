@@ -1,5 +1,5 @@
 -- What becomes of a payload that is reported acknowledged or lost by its token.
-use Rattle.std.specs.Prelude.{ℕ, ◌≡◌, ◌⊎◌, List, Option, Some, None, Result, Ok, Err}
+use Rattle.std.specs.Prelude.{ℕ, ◌≡◌, ◌⊎◌, List, Some, None, Result, Ok, Err}
 use Rattle.quic_history.specs.World.{Made}
 use Rattle.quic_history.specs.History.{Event, From}
 use Rattle.quic_streams.specs.declared.settling.SentPayload.{SentPayload}

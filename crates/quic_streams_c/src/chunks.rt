@@ -138,11 +138,7 @@ fn read_lent(
 }
 
 // Where the bytes of a read that lends stand is put into the first slices.
-fn show_lent(
-    answer: &Result<ReadInto, ReadableError>,
-    session: &Session,
-    slices: &mut [RawSlice],
-)
+fn show_lent(answer: &Result<ReadInto, ReadableError>, session: &Session, slices: &mut [RawSlice])
     requires { OnOk answer.now (length session.now.lent.items ≤ length slices.old) }
     ensures { PutsSlices answer.now session.now slices.old slices.new }
 {

@@ -140,7 +140,10 @@ fn tell_lent(
 }
 
 // What was written, or why nothing.
-pub(crate) fn tell_payload(answer: &Result<Option<Emitted>, OutOfMemory>, payload: &mut RawPayload) -> i32
+pub(crate) fn tell_payload(
+    answer: &Result<Option<Emitted>, OutOfMemory>,
+    payload: &mut RawPayload,
+) -> i32
     ensures { TellsPayload answer.now result payload.old payload.new }
 {
     match answer {

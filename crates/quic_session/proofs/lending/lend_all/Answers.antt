@@ -1,10 +1,9 @@
-use Rattle.std.proofs.Common.{◌≡◌, refl, sym, ap, subst, arith, ◌∙◌, List, ℕ, length, take, drop, ◌++◌, ◌∷◌, []}
+use Rattle.std.proofs.Common.{◌≡◌, sym, ap, arith, ◌∙◌, List, ℕ, length, take, drop, ◌++◌, ◌∷◌, []}
 use Rattle.std.specs.Prelude.{map}
 use Rattle.std.proofs.lemmas.List.{map-append, append_assoc, append-nil}
 use Rattle.std.proofs.Math.Seq.{take-length}
 use Rattle.std.specs.Vec.Iter.{drain_items}
 use Rattle.quic_assembler.specs.declared.chunk.Chunk.{Chunk}
-use Rattle.quic_session.specs.declared.lent_bytes.LentBytes.{LentBytes}
 use Rattle.quic_session.specs.Lending.{lent_bytes}
 use Rattle.quic_session.proofs.lending.lend_all.Goals as goal
 

@@ -1,4 +1,4 @@
-use Rattle.std.proofs.Common.{◌≡◌, refl, sym, ap, ◌∙◌, subst, inl, inr, Some, None, Ok, Err, true}
+use Rattle.std.proofs.Common.{◌≡◌, refl, sym, ap, ◌∙◌, subst, inr, Some, Ok, Err, true}
 use Rattle.quic_history.specs.World.{World}
 use Rattle.quic_history.specs.History.{From}
 use Rattle.quic_streams.specs.Shown.{streams_view}

@@ -1,9 +1,9 @@
-use Rattle.std.proofs.Common.{◌≡◌, ap, ◌∙◌, subst, sym, List, ◌∷◌, Err}
-use Rattle.quic_history.specs.World.{World, Made}
-use Rattle.quic_history.specs.History.{Event, Began, From, with_reads}
+use Rattle.std.proofs.Common.{◌≡◌, ap, ◌∙◌, subst, sym, ◌∷◌, Err}
+use Rattle.quic_history.specs.World.{World}
+use Rattle.quic_history.specs.History.{Began, From, with_reads}
 use Rattle.quic_streams.proofs.Results.{map_ok, map_err}
 use Rattle.quic_session.specs.Sessions.{end_of}
-use Rattle.quic_endpoint.specs.Ends.{EndState, with_counts_told, with_counts_told_if, is_opened}
+use Rattle.quic_endpoint.specs.Ends.{EndState, with_counts_told_if}
 use Rattle.quic_endpoint.proofs.Told.{told-streams, told-reads}
 use Rattle.quic_session.proofs.session.Session.read_given.Goals as goal
 

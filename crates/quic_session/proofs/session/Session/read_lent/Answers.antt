@@ -1,5 +1,4 @@
-use Rattle.std.proofs.Common.{◌≡◌, ◌≤◌, ◌+◌, ◌∙◌, sym, ap, List, ◌∷◌, ℕ, true, Err, inl, inr, Result, length, rules, subst, arith}
-use Rattle.std.specs.Prelude.{map}
+use Rattle.std.proofs.Common.{◌≡◌, ◌∙◌, sym, ap, List, ◌∷◌, ℕ, true, Err, inl, inr, Result, length, rules, subst, arith}
 use Rattle.std.proofs.lemmas.List.{length-map}
 use Rattle.quic_assembler.specs.declared.chunk.Chunk.{Chunk}
 use Rattle.quic_receiving.specs.declared.errors.ReadableError.{ReadableError}
@@ -37,7 +36,7 @@ returns-clause-reads c =
     let At : ℕ → Type 0 = λ at. AreConsecutive at some.chunks.items in
     let times = c.lends_for-times.ensures in
     let r : ReadsAt before c.args.id whole_chunk (lends_for c.args.most) true some.chunks.items some.last some.transmit.0 after
-        = subst (Reads (lends_for c.args.most)) c.take_back-lent.ensures.end (subst (λ n. Reads n (end_of c.take_back-lent.new.self)) times c.in_ok-some.ensures.reads) in
+    = subst (Reads (lends_for c.args.most)) c.take_back-lent.ensures.end (subst (λ n. Reads n (end_of c.take_back-lent.new.self)) times c.in_ok-some.ensures.reads) in
     let few = count-most (lends_for c.args.most) (length some.chunks.items) some.last r.reads.count in
     let lent = c.lend_all.ensures in
     let count : length c.lend_all.new.lent.items ≡ length some.chunks.items = sym (length-map c.lend_all.new.lent.items lent_bytes) ∙ ap length lent ∙ length-map some.chunks.items bytes_of in

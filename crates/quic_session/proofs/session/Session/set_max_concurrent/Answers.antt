@@ -4,7 +4,7 @@ use Rattle.quic_history.specs.History.{SetConcurrent, From}
 use Rattle.quic_streams.specs.Shown.{streams_view}
 use Rattle.quic_retransmits.specs.Pending.{pending_view}
 use Rattle.quic_session.specs.Sessions.{end_of}
-use Rattle.quic_endpoint.specs.Ends.{EndState, with_counts_told_if}
+use Rattle.quic_endpoint.specs.Ends.{EndState}
 use Rattle.quic_endpoint.proofs.Told.{told-streams}
 use Rattle.quic_session.proofs.session.Session.set_max_concurrent.Goals as goal
 
