@@ -1,5 +1,5 @@
 -- Buffers that were made longer.
-use Rattle.std.proofs.Common.{◌≡◌, ◌++◌, ◌⊎◌, ℕ, ℤ, pos, negsuc, inl, inr, length, Option, Some, Ok, Err}
+use Rattle.std.proofs.Common.{◌≡◌, ◌++◌, ◌⊎◌, ℕ, ℤ, pos, negsuc, inl, inr, length, Some, Ok, Err}
 use Rattle.std.specs.Prelude.{◌-◌, OnOk, OnErr, Result, replicate}
 use Rattle.quic_values.specs.declared.memory.OutOfMemory.{OutOfMemory}
 use Rattle.quic_session.specs.declared.buffer.Buffer.{Buffer}

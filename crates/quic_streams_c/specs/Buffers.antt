@@ -1,5 +1,5 @@
 -- Buffers that C holds.
-use Rattle.std.specs.Prelude.{ℕ, ℤ, Bool, true, false, pos, negsuc, ◌≡◌, ◌==◌, ◌⊎◌, ◌++◌, ◌-◌, not, nat_lt, List, [], length, replicate, take, Option, Some, None, Result, vec_len}
+use Rattle.std.specs.Prelude.{ℕ, ℤ, Bool, true, false, pos, negsuc, ◌≡◌, ◌==◌, ◌⊎◌, ◌++◌, ◌-◌, not, nat_lt, List, [], length, replicate, take, Option, Some, None, Result}
 use denote.RawPtr.{Ptr}
 use Rattle.std.specs.Vec.{vec_ptr}
 use Rattle.quic_values.specs.declared.memory.OutOfMemory.{OutOfMemory}

@@ -1,9 +1,8 @@
-use Rattle.std.proofs.Common.{◌≡◌, ◌+◌, ◌++◌, rules, refl, ap, ◌∙◌, sym, List, ℕ, take, drop, length, arith}
+use Rattle.std.proofs.Common.{◌≡◌, ◌++◌, rules, refl, ap, ◌∙◌, take, drop, length, arith}
 use Rattle.std.specs.Prelude.{map, slice_set}
 use Rattle.std.proofs.Math.Seq.{take-length}
-use Rattle.quic_session.specs.declared.lent_bytes.LentBytes.{LentBytes}
 use Rattle.quic_streams_c.specs.Slices.{raw_slice}
-use Rattle.quic_streams_c.proofs.Slices.{as-many, put-step}
+use Rattle.quic_streams_c.proofs.Slices.{put-step}
 use Rattle.quic_streams_c.proofs.chunks.put_slices.Goals as goal
 
 pub loop-bytes-init : goal.loop-bytes-init
