@@ -31,9 +31,10 @@
  * qs_stream_read_lent and in a qs_buffer.
  *
  * THREADS. A call on a handle or a qs_buffer must have ended before the next
- * call on the same one begins. Handles share nothing: those of different connections may be
- * used by different threads at the same time, and a handle may move from one
- * thread to another where the host orders the two, for example by a lock.
+ * call on the same one begins. Handles share nothing: those of different
+ * connections may be used by different threads at the same time, and a handle
+ * may move from one thread to another where the host orders the two, for
+ * example by a lock.
  */
 #ifndef QUIC_STREAMS_H
 #define QUIC_STREAMS_H

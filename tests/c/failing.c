@@ -115,15 +115,14 @@ static void send_by(qs_buffer *buffer, qs_conn *from, qs_conn *to) {
   }
 }
 
-/* Reads a stream to its end. Answers how many bytes there were, all the same. */
+/* Reads a stream of one byte to its end. Answers how many there were. */
 static size_t read_lent(qs_conn *conn, uint64_t id, uint8_t byte) {
   uint64_t offset = 0, code = 0;
   size_t all = 0;
   for (int32_t answer = QS_OK; answer != QS_END;) {
     qs_slice slices[8];
     size_t count = 0;
-    answer =
-        qs_stream_read_lent(conn, id, slices, 8, &count, &offset, &code);
+    answer = qs_stream_read_lent(conn, id, slices, 8, &count, &offset, &code);
     if (answer == QS_ERR_NOMEM)
       refused++;
     else if (answer != QS_END)
