@@ -191,6 +191,8 @@ pub(crate) fn room_for(size: usize) -> usize
 }
 
 // Whether memory with so much room is fit for so many bytes: they have room in it, and leave little of it.
-pub(crate) fn is_fit(room: usize, size: usize) -> bool {
+pub(crate) fn is_fit(room: usize, size: usize) -> bool
+    ensures { result ≡ true → size ≤ room }
+{
     size <= room && room / 6 <= size / 5
 }

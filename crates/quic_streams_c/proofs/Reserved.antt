@@ -4,10 +4,10 @@ use Rattle.std.specs.Prelude.{◌-◌, OnOk, OnErr, Result, replicate}
 use Rattle.quic_values.specs.declared.memory.OutOfMemory.{OutOfMemory}
 use Rattle.quic_session.specs.declared.buffer.Buffer.{Buffer}
 use Rattle.quic_streams_c.specs.Answers.{TellsDone, memory_code}
-use Rattle.quic_streams_c.specs.Buffers.{IsReserved, KeepsBytes}
+use Rattle.quic_streams_c.specs.Buffers.{IsBufferReserved, KeepsBufferBytes}
 
 -- whether there was memory is told
 pub told-reserved : (answer : Result (Unit {0}) OutOfMemory) (b d : Buffer) (size : ℕ) (code : ℤ) → OnOk answer (d.bytes.items ≡ b.bytes.items ++ replicate (size - length b.bytes.items) 0) → OnErr answer (d.bytes.items ≡ b.bytes.items)
-    → TellsDone memory_code answer code → ((code ≡ pos 0) × IsReserved (Some b) size (Some d)) ⊎ ((code ≡ negsuc 1) × KeepsBytes (Some b) (Some d))
+    → TellsDone memory_code answer code → ((code ≡ pos 0) × IsBufferReserved (Some b) size (Some d)) ⊎ ((code ≡ negsuc 1) × KeepsBufferBytes (Some b) (Some d))
 told-reserved (Ok x) b d size code ok err tells = inl (tells, ok)
 told-reserved (Err error) b d size code ok err tells = inr (tells, err)

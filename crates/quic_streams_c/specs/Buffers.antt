@@ -32,19 +32,19 @@ bytes_of None = []
 bytes_of (Some b) = b.bytes.items
 
 -- a buffer is open, and has at least so many bytes: those that it had, and zeros behind them
-abbrev pub IsReserved : Option Buffer → ℕ → Option Buffer → Type 0
-IsReserved old size None = ⊥
-IsReserved old size (Some b) = b.bytes.items ≡ bytes_of old ++ replicate (size - length (bytes_of old)) 0
+abbrev pub IsBufferReserved : Option Buffer → ℕ → Option Buffer → Type 0
+IsBufferReserved old size None = ⊥
+IsBufferReserved old size (Some b) = b.bytes.items ≡ bytes_of old ++ replicate (size - length (bytes_of old)) 0
 
 -- one stays closed, or keeps its bytes
-abbrev pub KeepsBytes : Option Buffer → Option Buffer → Type 0
-KeepsBytes None new = new ≡ None
-KeepsBytes (Some b) None = ⊥
-KeepsBytes (Some b) (Some d) = d.bytes.items ≡ b.bytes.items
+abbrev pub KeepsBufferBytes : Option Buffer → Option Buffer → Type 0
+KeepsBufferBytes None new = new ≡ None
+KeepsBufferBytes (Some b) None = ⊥
+KeepsBufferBytes (Some b) (Some d) = d.bytes.items ≡ b.bytes.items
 
 -- qs_buffer_reserve
 abbrev pub ReservesRaw : Option Buffer → ℕ → ℤ → Held → Type 0
-ReservesRaw old size code new = (((code ≡ pos 0) × IsReserved old size new.value) ⊎ ((code ≡ negsuc 1) × KeepsBytes old new.value)) × IsShown new.value new.bytes new.len
+ReservesRaw old size code new = (((code ≡ pos 0) × IsBufferReserved old size new.value) ⊎ ((code ≡ negsuc 1) × KeepsBufferBytes old new.value)) × IsShown new.value new.bytes new.len
 
 -- a payload of at most so many bytes is written into a buffer, of these parts
 pub record EmittingHeld (s : Session) (parts : Parts) (fair : Bool) (most : ℕ) (b : Buffer) (code : ℤ) (t : Session) (d : Buffer) (was now : RawPayload) : Type 0 where

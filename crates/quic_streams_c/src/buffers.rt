@@ -2,7 +2,7 @@
 
 ghost use Rattle.std.specs.Prelude.{◌≡◌, ◌↔◌, IsSome, MatchOption, IfOk};
 ghost use Rattle.std.specs.declared.option.Option.TheVariants.{Some, None};
-ghost use Rattle.quic_streams_c.specs.Buffers.{IsShown, IsReserved, ReservesRaw, EmitsHeld, EmitsBufferRaw, ReceivesHeld, ReceivesBufferRaw};
+ghost use Rattle.quic_streams_c.specs.Buffers.{IsShown, IsBufferReserved, ReservesRaw, EmitsHeld, EmitsBufferRaw, ReceivesHeld, ReceivesBufferRaw};
 ghost use Rattle.quic_streams_c.specs.Answers.{TellsDone, memory_code};
 ghost use Rattle.quic_streams_c.specs.Calls.{Calls};
 
@@ -122,7 +122,7 @@ fn open_buffer(alloc: Global, buffer: &mut RawBuffer, size: usize) -> i32
 
 // A new buffer that is so long.
 fn new_buffer(alloc: Global, size: usize) -> Result<Box<Buffer>, OutOfMemory>
-    ensures { IfOk result (λ b. IsReserved None size (Some b.value)) }
+    ensures { IfOk result (λ b. IsBufferReserved None size (Some b.value)) }
 {
     let mut buffer = Buffer::new(alloc);
     buffer.reserve(size)?;
