@@ -52,6 +52,7 @@ impl Session {
     }
 
     /// Writes the first of `bytes`, as [`SendStream::write`].
+    #[inline(always)]
     pub fn write(&mut self, id: StreamId, bytes: &[u8]) -> Result<usize, WriteError>
         ensures writes { was_given (end_of self.old).streams id ≡ true → IsWrittenAs result (λ written. (left : List (List ℕ))
             × WritesOwn (end_of self.old).streams id (slice_lists bytes.now) (is_shut self.old.conn) (end_of self.old).pending written (end_of self.new).streams left (end_of self.new).pending) }
@@ -67,6 +68,7 @@ impl Session {
     }
 
     // The same, of a stream that was given.
+    #[inline(always)]
     fn write_given(&mut self, id: StreamId, bytes: &[u8]) -> Result<usize, WriteError>
         ensures writes { IsWrittenAs result (λ written. (left : List (List ℕ))
             × WritesOwn (end_of self.old).streams id (slice_lists bytes.now) (is_shut self.old.conn) (end_of self.old).pending written (end_of self.new).streams left (end_of self.new).pending) }
@@ -268,6 +270,7 @@ impl Session {
     }
 
     // The same, of a stream that was given, in the memory of a list.
+    #[inline(always)]
     pub(crate) fn read_given(
         &mut self,
         id: StreamId,
@@ -290,6 +293,7 @@ impl Session {
     }
 
     // The same, with what it queues itself.
+    #[inline(always)]
     fn read_stream(
         &mut self,
         id: StreamId,
@@ -349,6 +353,7 @@ impl Session {
 }
 
 // The first chunk of a read is copied out.
+#[inline(always)]
 fn put_chunk(some: &ReadSome, out: &mut [u8]) -> ReadInto
     requires { AreFew some.now.chunks.items (length out.old) }
     ensures copies { CopiesChunk some.now.chunks.items result out.old out.new }
@@ -378,6 +383,7 @@ fn is_handled<T>(answer: &Result<T, HandleError>) -> bool
 }
 
 // Whether a reader was not refused for lack of memory.
+#[inline(always)]
 fn is_opened(answer: &Result<ReadSome, ReadableError>) -> bool
     ensures { result ≡ is_opened answer.now }
 {

@@ -15,6 +15,7 @@ use std::mem;
 
 impl LentBytes {
     /// How many bytes these are.
+    #[inline(always)]
     pub fn len(&self) -> usize
         ensures { result ≡ length (lent_bytes self.now) }
     {
@@ -27,6 +28,7 @@ impl Session {
     /// Reads the next bytes of a stream in order, of at most `most` chunks as they came, and of at most 64. They are lent:
     /// they stay in their memory, at [`Session::lent_bytes`], until the next call. The answer counts the chunks. One call
     /// may give bytes and tell that they are the last, or that no more are at hand.
+    #[inline(always)]
     pub fn read_lent(&mut self, id: StreamId, most: usize) -> Result<ReadInto, ReadableError>
         ensures reads { ReadsLent self.old id most result self.new }
         ensures beside { beside_of self.new ≡ beside_of self.old }
@@ -61,6 +63,7 @@ impl Session {
     }
 
     // The memory of what was lent is used again. Gives the list of it, without any.
+    #[inline(always)]
     fn take_back(&mut self) -> Vec<LentBytes>
         ensures none { result.items ≡ [] }
         ensures end { end_of self.new ≡ end_of self.old }
@@ -74,6 +77,7 @@ impl Session {
 }
 
 // How many chunks are asked for at most, where so many may be lent.
+#[inline(always)]
 fn lends_for(most: usize) -> u16
     ensures { result ≡ lends_for most }
 {
@@ -81,6 +85,7 @@ fn lends_for(most: usize) -> u16
 }
 
 // Whether a list has room for so many more.
+#[inline(always)]
 fn has_room(lent: &mut Vec<LentBytes>, count: usize) -> bool
     ensures items { lent.new.items ≡ lent.old.items }
     ensures room { result ≡ true → vec_len lent.new + count ≤ vec_capacity lent.new }
@@ -89,6 +94,7 @@ fn has_room(lent: &mut Vec<LentBytes>, count: usize) -> bool
 }
 
 // Chunks are put into a list of what is lent, which has room for them. Gives the memory of their own list.
+#[inline(always)]
 fn lend_all(chunks: Vec<Chunk>, lent: &mut Vec<LentBytes>) -> Vec<Chunk>
     requires none { lent.old.items ≡ [] }
     requires room { vec_len lent.old + vec_len chunks ≤ vec_capacity lent.old }

@@ -4,7 +4,7 @@ ghost use Rattle.std.specs.Prelude.{◌≡◌, ◌≤◌, true};
 
 use crate::lent_bytes::LentBytes;
 use quic_assembler::Chunk;
-use quic_values::OutOfMemory;
+use quic_values::{OutOfMemory, VarInt};
 use quic_wire::Frame;
 use std::alloc::Global;
 use std::marker::Model;
@@ -59,19 +59,21 @@ impl FrameMemory {
     }
 }
 
-// How many pieces of memory are kept at most.
-const MOST_PIECES: usize = 128;
+// How many pieces of memory are kept at most, whatever the receive window.
+const MOST_PIECES: u64 = 1024;
 
 // How many bytes each of them has room for, at least and at most. It is quick to take a smaller one anew.
 const LEAST_ROOM: usize = 512;
 
 const MOST_ROOM: usize = 2048;
 
-/// The memory of bytes that were read, which is used again for those that come: at most 128 pieces of at most 2,048 bytes.
-/// Contracts see nothing of it, but that it is bounded.
+/// The memory of bytes that were read, which is used again for those that come: as many pieces of at most 2,048 bytes as the
+/// receive window has room for, and at most 1,024. Contracts see nothing of it, but that it is bounded.
 #[derive(Drop)]
 pub(crate) struct PieceMemory {
     list: Vec<Vec<u8>>,
+    // How many pieces are kept at most.
+    most: usize,
 }
 
 impl Model for PieceMemory {
@@ -81,19 +83,31 @@ impl Model for PieceMemory {
 
     ghost view = { λ m. tt };
 
-    ghost invariant = { λ m. (vec_len m.list ≤ 128) × All (λ piece. vec_capacity piece ≤ 2048) m.list.items };
+    ghost invariant = { λ m. (vec_len m.list ≤ m.most) × (m.most ≤ 1024) × All (λ piece. vec_capacity piece ≤ 2048) m.list.items };
 }
 
 impl PieceMemory {
     ghost use Rattle.std.specs.Prelude.{◌≡◌, ◌≤◌, IfOk, vec_capacity};
 
-    // None.
-    pub(crate) fn new(alloc: Global) -> Self
+    // None yet, of an end with this receive window.
+    pub(crate) fn new(alloc: Global, window: VarInt) -> Self
         ensures { result ≡ tt }
     {
         PieceMemory {
             list: Vec::new(alloc),
+            most: pieces_within(window),
         }
+    }
+
+    // Sets the receive window. All pieces go where fewer may be kept than before.
+    pub(crate) fn set_window(&mut self, window: VarInt)
+        ensures same { self.new ≡ self.old }
+    {
+        let most = pieces_within(window);
+        if most < self.most {
+            self.list.clear();
+        }
+        self.most = most;
     }
 
     // A copy of bytes, in memory that was used before, if some is fit for them.
@@ -134,12 +148,13 @@ impl PieceMemory {
     pub(crate) fn put(&mut self, piece: Vec<u8>)
         ensures same { self.new ≡ self.old }
     {
-        if self.list.len() < MOST_PIECES && is_kept(piece.capacity()) {
+        if self.list.len() < self.most && is_kept(piece.capacity()) {
             let _ = self.list.push(piece);
         }
     }
 
     // Takes out the piece that was put in last, with any bytes, or else gives a vector without memory.
+    #[inline(always)]
     pub(crate) fn spare(&mut self, alloc: Global) -> Vec<u8>
         ensures few { vec_capacity result ≤ 2048 }
         ensures same { self.new ≡ self.old }
@@ -151,6 +166,7 @@ impl PieceMemory {
     }
 
     // Puts the memory of what was lent in. The list has none of it any more.
+    #[inline(always)]
     pub(crate) fn put_lent(&mut self, lent: &mut Vec<LentBytes>)
         ensures same { self.new ≡ self.old }
     {
@@ -161,6 +177,7 @@ impl PieceMemory {
     }
 
     // Puts the memory of chunks in. The list has none of them any more.
+    #[inline(always)]
     pub(crate) fn put_all(&mut self, chunks: &mut Vec<Chunk>)
         ensures same { self.new ≡ self.old }
     {
@@ -171,7 +188,15 @@ impl PieceMemory {
     }
 }
 
+// How many pieces are kept at most, where so many bytes may be received and not read.
+fn pieces_within(window: VarInt) -> usize
+    ensures { result ≤ 1024 }
+{
+    (window.into_inner() / MOST_ROOM as u64).min(MOST_PIECES) as usize
+}
+
 // Whether a piece of so many bytes is one to be kept.
+#[inline(always)]
 pub(crate) fn is_kept(room: usize) -> bool
     ensures { result ≡ true → room ≤ 2048 }
 {
@@ -180,6 +205,7 @@ pub(crate) fn is_kept(room: usize) -> bool
 
 // How much room memory gets that is taken anew for so many bytes: a little more than for these, if it may be kept, so that it
 // is fit for bytes of almost the same length, too.
+#[inline(always)]
 pub(crate) fn room_for(size: usize) -> usize
     ensures { size ≤ result }
 {
@@ -191,6 +217,7 @@ pub(crate) fn room_for(size: usize) -> usize
 }
 
 // Whether memory with so much room is fit for so many bytes: they have room in it, and leave little of it.
+#[inline(always)]
 pub(crate) fn is_fit(room: usize, size: usize) -> bool
     ensures { result ≡ true → size ≤ room }
 {

@@ -104,7 +104,7 @@ impl Session {
             bytes: Vec::new(alloc),
             chunks: Vec::new(alloc),
             frames: FrameMemory::new(alloc),
-            pieces: PieceMemory::new(alloc),
+            pieces: PieceMemory::new(alloc, config.receive_window),
             lent: Vec::new(alloc),
             alloc,
         })
@@ -142,6 +142,7 @@ impl Session {
     {
         let larger = self.streams.set_receive_window(window);
         self.pending.queue_max_data(larger);
+        self.pieces.set_window(window);
         larger
     }
 
@@ -166,6 +167,7 @@ impl Session {
     }
 
     /// What the application is to be told next of the streams, if there is something.
+    #[inline(always)]
     pub fn poll(&mut self) -> Option<StreamEvent>
         ensures polls { TellsNext (end_of self.old).streams result (end_of self.new).streams }
         ensures pending { (end_of self.new).pending ≡ (end_of self.old).pending }
@@ -208,6 +210,7 @@ impl Session {
     }
 
     // MAX_STREAMS is queued where it is due, if a call was not refused for lack of memory.
+    #[inline(always)]
     pub(crate) fn tell_counts_if(&mut self, handled: bool)
         ensures told { end_of self.new ≡ with_counts_told_if handled (end_of self.old) }
         ensures beside { beside_of self.new ≡ beside_of self.old }

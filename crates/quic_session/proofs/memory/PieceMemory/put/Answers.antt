@@ -12,6 +12,7 @@ pub invariant_of-self : goal.invariant_of-self
 invariant_of-self c =
     let Small : Vec ℕ Global → Type 0 = λ piece. vec_capacity piece ≤ 2048 in
     let small : Small c.args.piece = omega (arith, c.is_kept.ensures c.if-is_kept.true, c.capacity.ensures) in (
-      omega (arith, c.push.ensures.upper_bound, c.if-len-lt-MOST_PIECES.true, c.len.ensures),
-      subst (All Small) (sym c.push.ensures.items) (all-pushed Small (is_ok c.push.result) c.self.inside.list.items c.args.piece c.self.invariant.1 small),
+      omega (arith, c.push.ensures.upper_bound, c.if-len-self.true, c.len.ensures),
+      c.self.invariant.1,
+      subst (All Small) (sym c.push.ensures.items) (all-pushed Small (is_ok c.push.result) c.self.inside.list.items c.args.piece c.self.invariant.2 small),
     )
