@@ -3,18 +3,22 @@
 #include "check.h"
 #include "wrapped.h"
 
-enum { WINDOW = 1 << 20, PIECE = 1100, MOST_KEPT = 128 };
+enum { WINDOW = 1 << 20, PIECE = 1100, MOST_ROOM = 2048, MOST_KEPT = 1024 };
 
 static uint8_t text[1 << 16];
 
 /* A server that may receive on a stream of the client, which it accepted. */
-static void open_reader(qs_conn *conn, uint64_t *offset) {
+static void open_window(qs_conn *conn, uint64_t *offset, uint64_t window) {
   qs_error error = {0, 0, {0}};
   uint64_t id = 99;
-  SAME(open_end(conn, QS_SERVER, 4, WINDOW, WINDOW), QS_OK);
+  SAME(open_end(conn, QS_SERVER, 4, window, window), QS_OK);
   SAME(qs_on_stream(conn, 2, 0, text, 1, 0, 1, &error), QS_OK);
   SAME(qs_stream_accept(conn, QS_UNI, &id), QS_OK);
   *offset = 1;
+}
+
+static void open_reader(qs_conn *conn, uint64_t *offset) {
+  open_window(conn, offset, WINDOW);
 }
 
 /* The next bytes of the stream come. */
@@ -139,23 +143,44 @@ static void a_buffer_takes_no_memory(void) {
   takes_none(take_buffer, read_lent);
 }
 
-/* Of many pieces that were read, few are kept, and of long ones none. */
-static void few_pieces_are_kept(void) {
+/* So many frames come and are read; answers how many pieces of memory are held
+ * then, over those before. */
+static long kept_of(qs_conn *conn, uint64_t *offset, size_t frames,
+                    size_t len) {
+  take_events(conn);
+  long before = held;
+  for (size_t frame = 0; frame < frames; frame++)
+    take_in(conn, offset, len);
+  SAME(held - before >= (long)frames, 1);
+  SAME(read_pieces(conn), frames * len);
+  return held - before;
+}
+
+/* Of long pieces that were read none is kept, and of others as many as the
+ * receive window has room for. A smaller window lets them go. */
+static void a_window_of_pieces_is_kept(void) {
   qs_conn conn = QS_CONN_INIT;
   uint64_t offset = 0;
   open_reader(&conn, &offset);
   read_all(&conn);
-  long before = held;
-  for (int frame = 0; frame < 100; frame++)
-    take_in(&conn, &offset, 4096);
-  SAME(read_pieces(&conn), 100 * 4096);
+  SAME(kept_of(&conn, &offset, 100, 4096) < 10, 1);
+  long before = held, most = WINDOW / MOST_ROOM;
+  long kept = kept_of(&conn, &offset, 900, PIECE);
+  SAME(kept >= most && kept < most + 10, 1);
+  SAME(qs_set_receive_window(&conn, WINDOW / 2), QS_OK);
   SAME(held - before < 10, 1);
-  for (int frame = 0; frame < 400; frame++)
-    take_in(&conn, &offset, PIECE);
-  SAME(held - before >= 400, 1);
-  SAME(read_pieces(&conn), 400 * PIECE);
-  SAME(held - before >= MOST_KEPT, 1);
-  SAME(held - before < MOST_KEPT + 10, 1);
+  qs_conn_free(&conn);
+  SAME(held, 0);
+}
+
+/* Of a window that has room for more, so many are kept. */
+static void few_pieces_are_kept(void) {
+  qs_conn conn = QS_CONN_INIT;
+  uint64_t offset = 0;
+  open_window(&conn, &offset, 4 * WINDOW);
+  read_all(&conn);
+  long kept = kept_of(&conn, &offset, 1500, PIECE);
+  SAME(kept >= MOST_KEPT && kept < MOST_KEPT + 10, 1);
   qs_conn_free(&conn);
   SAME(held, 0);
 }
@@ -200,9 +225,10 @@ int main(void) {
   a_frame_takes_no_memory();
   a_payload_takes_no_memory();
   a_buffer_takes_no_memory();
+  a_window_of_pieces_is_kept();
   few_pieces_are_kept();
   a_short_frame_takes_its_own_memory();
   another_length_is_kept_in_time();
-  printf("memory: 6 tests\n");
+  printf("memory: 7 tests\n");
   return 0;
 }
