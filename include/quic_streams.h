@@ -412,7 +412,7 @@ int32_t qs_receive(qs_conn *conn, const uint8_t *payload, size_t len,
                    size_t *next, qs_error *error);
 
 /* The same for the first len bytes of a buffer, but these are not copied where
- * they leave at most some fifth of its memory free: they stay in it, and the
+ * they leave at most an eighth of its memory free: they stay in it, and the
  * buffer gets other memory, with any bytes. It may be shorter then: call
  * qs_buffer_reserve before the next packet.
  * QS_ERR_CLOSED: the handle or the buffer is closed. QS_ERR_ARGUMENT: len is

@@ -33,8 +33,6 @@ GIVES_BACK = {"put_new", "put_first", "put_last", "put_tidy", "join_last", "push
 ALLOWED = {
     # A report of a payload hands the payload back where memory ran out, and only there.
     ("crates/quic_session/src/settling.rt", "SettleError::OutOfMemory"),
-    # The list of what a read lends has no room only where a `reserve` failed.
-    ("crates/quic_session/src/lending.rt", "return Err(ReadableError::OutOfMemory);"),
     # A report of a payload hands the payload back where memory ran out, and only there.
     ("crates/connection_loop/src/connection.rt", "self.streams.acked(sent).or(Err(OutOfMemory))?;"),
     ("crates/connection_loop/src/connection.rt", ".or(Err(OutOfMemory))?,"),

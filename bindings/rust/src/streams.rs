@@ -294,10 +294,25 @@ impl<'a> RecvStream<'a> {
     ///
     /// Where `out` is empty.
     pub fn read_many(&mut self, out: &mut [u8]) -> Result<ReadMany, ReadError> {
+        // SAFETY: these are bytes as well, and the read stores nothing but bytes.
+        let out = unsafe { &mut *(out as *mut [u8] as *mut [MaybeUninit<u8>]) };
+        self.read_many_uninit(out)
+    }
+
+    /// Reads as [`RecvStream::read_many`] does, into memory that need not be initialised. As many bytes as it returns, from
+    /// the first of `out` on, are initialised then. The others stay as they were.
+    ///
+    /// # Panics
+    ///
+    /// Where `out` is empty.
+    pub fn read_many_uninit(
+        &mut self,
+        out: &mut [MaybeUninit<u8>],
+    ) -> Result<ReadMany, ReadError> {
         assert!(!out.is_empty(), "a read needs room");
         let (mut count, mut offset, mut code) = (0, 0, 0);
         let (conn, id) = (&mut self.state.conn, self.id.0);
-        let (at, cap) = (out.as_mut_ptr(), out.len());
+        let (at, cap) = (out.as_mut_ptr().cast(), out.len());
         let answer = unsafe {
             sys::qs_stream_read_many(conn, id, at, cap, &mut count, &mut offset, &mut code)
         };

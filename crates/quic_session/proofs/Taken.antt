@@ -1,9 +1,12 @@
 -- Frames of a payload that were taken from a place on.
-use Rattle.std.proofs.Common.{◌≡◌, ℕ, ◌+◌, ◌<◌, ◌≤◌, inl, inr, Bool, true, false, List, [], ◌∷◌, ◌++◌, length, drop, Result, Ok, Err, refl, sym, ap, ◌∙◌, subst, arith}
+use Rattle.std.proofs.Common.{◌≡◌, ℕ, ◌+◌, ◌<◌, ◌≤◌, inl, inr, Bool, true, false, List, [], ◌∷◌, ◌++◌, length, drop, reverse, Result, Ok, Err, refl, sym, ap, ◌∙◌, subst, arith}
 use Rattle.std.specs.Prelude.{map}
 use Rattle.std.proofs.Math.ListN.{drop_of_length-le}
-use Rattle.std.proofs.lemmas.List.{drop-append-le, map-append, length-map, length-drop, length_push}
+use Rattle.std.proofs.lemmas.List.{drop-append-le, map-append, length-map, length-drop, length-append, length_push, reverse-append}
 use Rattle.std.proofs.lemmas.Bool.{false≢true}
+use Rattle.std.specs.Prelude.{All}
+use Rattle.std.proofs.Math.ListN.{get_or}
+use Rattle.std.proofs.Math.Seq.{get_or-append_seam}
 use Rattle.quic_wire.specs.declared.frame.Frame.{Frame}
 use Rattle.quic_session.specs.declared.session.Session.{Session}
 use Rattle.quic_session.specs.declared.receiving.PayloadError.{PayloadError}
@@ -85,3 +88,19 @@ past-refused size first s all seen t f rest e u at p here parted o =
     let Q : ℕ → Type 0 = λ n. StopsAtRefused size first (seen ++ f ∷ rest) s (record { next = n; answer = Err e }) u in
     let R : List Frame → Type 0 = λ l. StopsAtRefused size first l s (record { next = at; answer = Err e }) u in
     subst R (sym parted) (subst Q (sym here) (past-stopped size first s seen t f rest e u p (subst P here o)))
+
+-- of all frames the first ones were handed in, and the others are left, the next one last
+pub record Handed (size first : ℕ) (s : Session) (all left : List Frame) (at : ℕ) (t : Session) : Type 0 where
+  pub seen : List Frame
+  pub past : Past size first s seen t
+  pub count : at ≡ length seen
+  pub rest : all ≡ seen ++ reverse left
+
+-- what is left begins with the one that is last in the list
+pub next-left : (all seen left after : List Frame) (f : Frame) → all ≡ seen ++ reverse left → left ≡ after ++ f ∷ [] → all ≡ seen ++ f ∷ reverse after
+next-left all seen left after f parted last = parted ∙ ap (λ l. seen ++ reverse l) last ∙ ap (λ l. seen ++ l) (reverse-append after (f ∷ []))
+
+-- what holds of all holds of the next one
+pub holds-of-next : (P : Frame → Type 0) (all seen after : List Frame) (f : Frame) → all ≡ seen ++ f ∷ after → All P all → P f
+holds-of-next P all seen after f parted each =
+    subst P (ap (λ l. get_or l (length seen) f) parted ∙ get_or-append_seam seen f after f) (each (length seen) f (omega (arith, ap length parted ∙ length-append seen (f ∷ after))))

@@ -52,7 +52,6 @@ impl Session {
     }
 
     /// Writes the first of `bytes`, as [`SendStream::write`].
-    #[inline(always)]
     pub fn write(&mut self, id: StreamId, bytes: &[u8]) -> Result<usize, WriteError>
         ensures writes { was_given (end_of self.old).streams id ≡ true → IsWrittenAs result (λ written. (left : List (List ℕ))
             × WritesOwn (end_of self.old).streams id (slice_lists bytes.now) (is_shut self.old.conn) (end_of self.old).pending written (end_of self.new).streams left (end_of self.new).pending) }
@@ -68,7 +67,6 @@ impl Session {
     }
 
     // The same, of a stream that was given.
-    #[inline(always)]
     fn write_given(&mut self, id: StreamId, bytes: &[u8]) -> Result<usize, WriteError>
         ensures writes { IsWrittenAs result (λ written. (left : List (List ℕ))
             × WritesOwn (end_of self.old).streams id (slice_lists bytes.now) (is_shut self.old.conn) (end_of self.old).pending written (end_of self.new).streams left (end_of self.new).pending) }
@@ -270,7 +268,6 @@ impl Session {
     }
 
     // The same, of a stream that was given, in the memory of a list.
-    #[inline(always)]
     pub(crate) fn read_given(
         &mut self,
         id: StreamId,
@@ -286,6 +283,7 @@ impl Session {
         ensures from_refused { IfErr result (λ error. (m : Made) (h : List Event) → From m h (end_of self.old).streams
             → From m (Began id ordered (Err error) ∷ h) (end_of self.new).streams) }
         ensures beside { beside_of self.new ≡ beside_of self.old }
+        ensures lent { self.new.lent ≡ self.old.lent }
     {
         let answer = self.read_stream(id, ordered, max_length, times, list);
         self.tell_counts_if(is_opened(&answer));
@@ -293,7 +291,6 @@ impl Session {
     }
 
     // The same, with what it queues itself.
-    #[inline(always)]
     fn read_stream(
         &mut self,
         id: StreamId,
@@ -310,6 +307,7 @@ impl Session {
         ensures from_refused { IfErr result (λ error. (m : Made) (h : List Event) → From m h (end_of self.old).streams
             → From m (Began id ordered (Err error) ∷ h) (end_of self.new).streams) }
         ensures beside { beside_of self.new ≡ beside_of self.old }
+        ensures lent { self.new.lent ≡ self.old.lent }
     {
         let (streams, pending) = (&mut self.streams, &mut self.pending);
         RecvStream::new(id, streams, pending).read_some_into(ordered, max_length, times, list)
@@ -353,7 +351,6 @@ impl Session {
 }
 
 // The first chunk of a read is copied out.
-#[inline(always)]
 fn put_chunk(some: &ReadSome, out: &mut [u8]) -> ReadInto
     requires { AreFew some.now.chunks.items (length out.old) }
     ensures copies { CopiesChunk some.now.chunks.items result out.old out.new }
@@ -383,7 +380,6 @@ fn is_handled<T>(answer: &Result<T, HandleError>) -> bool
 }
 
 // Whether a reader was not refused for lack of memory.
-#[inline(always)]
 fn is_opened(answer: &Result<ReadSome, ReadableError>) -> bool
     ensures { result ≡ is_opened answer.now }
 {

@@ -63,7 +63,6 @@ fn put_chunks(chunks: &[Chunk], out: &mut [u8]) -> usize
 }
 
 // Writes bytes over those from an index on.
-#[inline(always)]
 fn put_at(out: &mut [u8], at: usize, bytes: &[u8])
     requires { at + length bytes.now ≤ length out.old }
     ensures { out.new ≡ take at out.old ++ (bytes.now ++ drop (at + length bytes.now) out.old) }
@@ -72,7 +71,6 @@ fn put_at(out: &mut [u8], at: usize, bytes: &[u8])
 }
 
 // Where the first of some chunks stands in the stream.
-#[inline(always)]
 pub(crate) fn offset_of_first(chunks: &[Chunk]) -> u64
     ensures { result ≡ offset_of_first chunks.now }
 {

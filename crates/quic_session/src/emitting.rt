@@ -11,7 +11,6 @@ use crate::buffer::Buffer;
 use crate::memory::{is_kept, room_for};
 use crate::session::Session;
 use quic_datagrams::DatagramState;
-use quic_streams::stats::FrameStats;
 use quic_streams::{SentPayload, StreamMetaVec, ThinRetransmits};
 use quic_values::OutOfMemory;
 use quic_wire::frame::Datagram;
@@ -90,7 +89,6 @@ impl Session {
     }
 
     // The payload that is lent is copied out.
-    #[inline(always)]
     fn put_out(&self, emitted: Emitted, out: &mut [u8]) -> Emitted
         ensures len { result.len ≡ min (length self.now.bytes.items) (length out.old) }
         ensures copied { out.new ≡ take result.len self.now.bytes.items ++ drop result.len out.old }
@@ -104,7 +102,6 @@ impl Session {
 
     /// The same for a payload of at most `max_size` bytes that is not copied: it stands in the memory of the session, at
     /// [`Session::lent`], until the next payload is written.
-    #[inline(always)]
     pub fn emit_lent(
         &mut self,
         max_size: usize,
@@ -149,7 +146,6 @@ impl Session {
     }
 
     // The payload that is lent and the bytes of a buffer change places.
-    #[inline(always)]
     fn exchange(&mut self, buffer: &mut Buffer)
         ensures given { buffer.new.bytes ≡ self.old.bytes }
         ensures end { end_of self.new ≡ end_of self.old }
@@ -159,7 +155,6 @@ impl Session {
     }
 
     // A payload is lent, and what is to be reported of it is kept under the next token.
-    #[inline(always)]
     fn lend(&mut self, draft: Draft, max_size: usize) -> Emitted
         requires { 0 < places self.old.unsettled }
         ensures lent { IsLent max_size (payload_of draft) result self.new.bytes.items }
@@ -184,7 +179,6 @@ impl Session {
     }
 
     // Writes the parts one after another.
-    #[inline(always)]
     fn write_parts(
         &mut self,
         draft: &mut Draft,
@@ -202,7 +196,6 @@ impl Session {
     }
 
     // Writes the control frames, if they were asked for.
-    #[inline(always)]
     fn write_control(
         &mut self,
         draft: &mut Draft,
@@ -215,18 +208,16 @@ impl Session {
         if !asked {
             return Ok(());
         }
-        let mut counters = FrameStats::new();
         self.streams.write_control_frames(
             &mut draft.bytes,
             &mut self.pending,
             &mut draft.sent.control,
-            &mut counters,
+            &mut self.counters,
             max_size,
         )
     }
 
     // Writes the datagrams that fit, if they were asked for.
-    #[inline(always)]
     fn write_datagrams(
         &mut self,
         draft: &mut Draft,
@@ -246,7 +237,6 @@ impl Session {
     }
 
     // A blocked sender is to be told that there is room, if datagrams were written.
-    #[inline(always)]
     fn tell_room_if(&mut self, sent: bool)
         ensures told { datagrams_view self.new ≡ with_datagrams_sent (datagrams_view self.old) sent self.old.datagrams.outgoing }
         ensures end { end_of self.new ≡ end_of self.old }
@@ -260,7 +250,6 @@ impl Session {
     }
 
     // Writes data of streams, if they were asked for.
-    #[inline(always)]
     fn write_streams(
         &mut self,
         draft: &mut Draft,

@@ -15,7 +15,6 @@ use std::mem;
 
 impl LentBytes {
     /// How many bytes these are.
-    #[inline(always)]
     pub fn len(&self) -> usize
         ensures { result ≡ length (lent_bytes self.now) }
     {
@@ -28,7 +27,6 @@ impl Session {
     /// Reads the next bytes of a stream in order, of at most `most` chunks as they came, and of at most 64. They are lent:
     /// they stay in their memory, at [`Session::lent_bytes`], until the next call. The answer counts the chunks. One call
     /// may give bytes and tell that they are the last, or that no more are at hand.
-    #[inline(always)]
     pub fn read_lent(&mut self, id: StreamId, most: usize) -> Result<ReadInto, ReadableError>
         ensures reads { ReadsLent self.old id most result self.new }
         ensures beside { beside_of self.new ≡ beside_of self.old }
@@ -36,20 +34,18 @@ impl Session {
         if !self.streams.was_given(id) {
             return Err(ReadableError::ClosedStream);
         }
-        let mut lent = self.take_back();
+        self.take_back();
         let times = lends_for(most);
-        if !has_room(&mut lent, times as usize) {
+        if self.lent.reserve(times as usize).is_err() {
             return Err(ReadableError::OutOfMemory);
         }
         let list = mem::replace(&mut self.chunks, Vec::new(self.alloc));
         let some = self.read_given(id, true, usize::MAX, times, list)?;
         let offset = offset_of_first(&some.chunks);
         let last = some.last;
-        self.chunks = lend_all(some.chunks, &mut lent);
-        let count = lent.len();
-        self.lent = lent;
+        self.chunks = lend_all(some.chunks, &mut self.lent);
         Ok(ReadInto {
-            count,
+            count: self.lent.len(),
             offset,
             last,
         })
@@ -62,39 +58,24 @@ impl Session {
         self.lent.as_slice()
     }
 
-    // The memory of what was lent is used again. Gives the list of it, without any.
-    #[inline(always)]
-    fn take_back(&mut self) -> Vec<LentBytes>
-        ensures none { result.items ≡ [] }
+    // The memory of what was lent is used again, and nothing is lent any more.
+    fn take_back(&mut self)
+        ensures none { self.new.lent.items ≡ [] }
         ensures end { end_of self.new ≡ end_of self.old }
         ensures beside { beside_of self.new ≡ beside_of self.old }
     {
-        let mut lent = mem::replace(&mut self.lent, Vec::new(self.alloc));
-        self.pieces.put_lent(&mut lent);
-        lent.clear();
-        lent
+        self.pieces.put_lent(&mut self.lent);
     }
 }
 
 // How many chunks are asked for at most, where so many may be lent.
-#[inline(always)]
 fn lends_for(most: usize) -> u16
     ensures { result ≡ lends_for most }
 {
     most.min(64) as u16
 }
 
-// Whether a list has room for so many more.
-#[inline(always)]
-fn has_room(lent: &mut Vec<LentBytes>, count: usize) -> bool
-    ensures items { lent.new.items ≡ lent.old.items }
-    ensures room { result ≡ true → vec_len lent.new + count ≤ vec_capacity lent.new }
-{
-    lent.reserve(count).is_ok()
-}
-
 // Chunks are put into a list of what is lent, which has room for them. Gives the memory of their own list.
-#[inline(always)]
 fn lend_all(chunks: Vec<Chunk>, lent: &mut Vec<LentBytes>) -> Vec<Chunk>
     requires none { lent.old.items ≡ [] }
     requires room { vec_len lent.old + vec_len chunks ≤ vec_capacity lent.old }

@@ -8,7 +8,6 @@ use quic_values::{OutOfMemory, VarInt};
 use quic_wire::Frame;
 use std::alloc::Global;
 use std::marker::Model;
-use std::mem;
 
 // How many frames a list has room for at most, whose memory is kept.
 const MOST_KEPT: usize = 64;
@@ -16,29 +15,27 @@ const MOST_KEPT: usize = 64;
 /// The memory of a list of frames, which is used again. Contracts see nothing of it, but that it has little room.
 #[derive(Drop)]
 pub(crate) struct FrameMemory {
-    list: Vec<Frame>,
+    list: Option<Vec<Frame>>,
 }
 
 impl Model for FrameMemory {
-    ghost use Rattle.std.specs.Prelude.{◌≤◌, vec_capacity};
+    ghost use Rattle.std.specs.Prelude.{◌≤◌, IfSome, vec_capacity};
 
     ghost Value = { Unit {0} };
 
     ghost view = { λ m. tt };
 
-    ghost invariant = { λ m. vec_capacity m.list ≤ 64 };
+    ghost invariant = { λ m. IfSome m.list (λ list. vec_capacity list ≤ 64) };
 }
 
 impl FrameMemory {
     ghost use Rattle.std.specs.Prelude.{◌≡◌, ◌≤◌, vec_capacity};
 
     // None.
-    pub(crate) fn new(alloc: Global) -> Self
+    pub(crate) fn new() -> Self
         ensures { result ≡ tt }
     {
-        FrameMemory {
-            list: Vec::new(alloc),
-        }
+        FrameMemory { list: None }
     }
 
     // Takes the list out, which has room for few frames.
@@ -46,7 +43,10 @@ impl FrameMemory {
         ensures few { vec_capacity result ≤ 64 }
         ensures same { self.new ≡ self.old }
     {
-        mem::replace(&mut self.list, Vec::new(alloc))
+        match self.list.take() {
+            Some(list) => list,
+            None => Vec::new(alloc),
+        }
     }
 
     // Puts a list in, if it has room for few frames. The memory of another goes.
@@ -54,7 +54,7 @@ impl FrameMemory {
         ensures same { self.new ≡ self.old }
     {
         if list.capacity() <= MOST_KEPT {
-            self.list = list;
+            self.list = Some(list);
         }
     }
 }
@@ -87,7 +87,7 @@ impl Model for PieceMemory {
 }
 
 impl PieceMemory {
-    ghost use Rattle.std.specs.Prelude.{◌≡◌, ◌≤◌, IfOk, vec_capacity};
+    ghost use Rattle.std.specs.Prelude.{◌≡◌, ◌≤◌, [], IfOk, vec_capacity};
 
     // None yet, of an end with this receive window.
     pub(crate) fn new(alloc: Global, window: VarInt) -> Self
@@ -154,7 +154,6 @@ impl PieceMemory {
     }
 
     // Takes out the piece that was put in last, with any bytes, or else gives a vector without memory.
-    #[inline(always)]
     pub(crate) fn spare(&mut self, alloc: Global) -> Vec<u8>
         ensures few { vec_capacity result ≤ 2048 }
         ensures same { self.new ≡ self.old }
@@ -166,18 +165,17 @@ impl PieceMemory {
     }
 
     // Puts the memory of what was lent in. The list has none of it any more.
-    #[inline(always)]
     pub(crate) fn put_lent(&mut self, lent: &mut Vec<LentBytes>)
+        ensures none { lent.new.items ≡ [] }
         ensures same { self.new ≡ self.old }
     {
-        for piece in lent.drain(..) {
+        while let Some(piece) = lent.pop() {
             let LentBytes { memory, .. } = piece;
             self.put(memory);
         }
     }
 
     // Puts the memory of chunks in. The list has none of them any more.
-    #[inline(always)]
     pub(crate) fn put_all(&mut self, chunks: &mut Vec<Chunk>)
         ensures same { self.new ≡ self.old }
     {
@@ -196,7 +194,6 @@ fn pieces_within(window: VarInt) -> usize
 }
 
 // Whether a piece of so many bytes is one to be kept.
-#[inline(always)]
 pub(crate) fn is_kept(room: usize) -> bool
     ensures { result ≡ true → room ≤ 2048 }
 {
@@ -205,7 +202,6 @@ pub(crate) fn is_kept(room: usize) -> bool
 
 // How much room memory gets that is taken anew for so many bytes: a little more than for these, if it may be kept, so that it
 // is fit for bytes of almost the same length, too.
-#[inline(always)]
 pub(crate) fn room_for(size: usize) -> usize
     ensures { size ≤ result }
 {
@@ -216,10 +212,9 @@ pub(crate) fn room_for(size: usize) -> usize
     }
 }
 
-// Whether memory with so much room is fit for so many bytes: they have room in it, and leave little of it.
-#[inline(always)]
+// Whether memory with so much room is fit for so many bytes: they have room in it, and leave at most an eighth of it free.
 pub(crate) fn is_fit(room: usize, size: usize) -> bool
     ensures { result ≡ true → size ≤ room }
 {
-    size <= room && room / 6 <= size / 5
+    size <= room && room - size <= room / 8
 }

@@ -60,8 +60,7 @@ impl Session {
     }
 
     /// The same for the first `len` bytes of a buffer, whose memory is kept, and not copied, where the payload leaves at most
-    /// some fifth of it free. The buffer has other memory then, with any bytes. Where memory ran out, the payload may be gone.
-    #[inline(always)]
+    /// an eighth of it free. The buffer has other memory then, with any bytes. Where memory ran out, the payload may be gone.
     pub fn receive_buffer(&mut self, buffer: &mut Buffer, len: usize, first: usize) -> Received
         requires { len ≤ length buffer.old.bytes.items }
         ensures receives { ReceivesPayload self.old (take len buffer.old.bytes.items) first result self.new }
@@ -77,7 +76,6 @@ impl Session {
     }
 
     // The same, in the memory of the payload.
-    #[inline(always)]
     fn receive_owned(&mut self, payload: Vec<u8>, first: usize) -> Received
         ensures receives { ReceivesPayload self.old payload.items first result self.new }
         ensures others { ReceivesOnly self.old self.new }
@@ -107,15 +105,15 @@ impl Session {
     }
 
     // Takes the frames of a payload, from a place on.
-    #[inline(always)]
     fn receive_frames(&mut self, frames: Vec<Frame>, payload_len: usize, first: usize) -> Received
         requires { All (IsFrameWithin payload_len) frames.items }
         ensures receives { ReceivesFrames payload_len first frames.items self.old result self.new }
         ensures others { ReceivesOnly self.old self.new }
     {
         let mut list = frames;
+        list.reverse();
         let mut next: usize = 0;
-        for frame in list.drain(..) {
+        while let Some(frame) = list.pop() {
             if let Err(error) = self.receive_from(next, first, frame, payload_len) {
                 return Received {
                     next,
@@ -132,7 +130,6 @@ impl Session {
     }
 
     // Takes the frame at a place, where those below another are passed over.
-    #[inline(always)]
     fn receive_from(
         &mut self,
         at: usize,
@@ -151,7 +148,6 @@ impl Session {
     }
 
     /// The same as [`Session::receive_frame`], for any length: one below that of the data counts as that of the data.
-    #[inline(always)]
     pub fn receive_frame_within(
         &mut self,
         frame: Frame,
@@ -170,7 +166,6 @@ impl Session {
     /// MAX_DATA it is queued, and MAX_STREAMS where it is due, unless memory ran out. STOP_SENDING for a stream on which
     /// only the peer sends, or for one of this end that is not open, is refused with STREAM_STATE_ERROR (section 19.5), and
     /// so is STREAM_DATA_BLOCKED for a stream on which only this end sends (section 19.13).
-    #[inline(always)]
     pub fn receive_frame(
         &mut self,
         frame: Frame,
@@ -191,7 +186,6 @@ impl Session {
     }
 
     // The error of a frame for a stream on which it may not be sent.
-    #[inline(always)]
     fn validate_direction(&self, frame: &Frame) -> Result<(), TransportError>
         ensures ok { OnOk result (is_misdirected (end_of self.now).streams frame.now ≡ false) }
         ensures err { IfErr result (λ error. (is_misdirected (end_of self.now).streams frame.now ≡ true) × (error.code ≡ STREAM_STATE_ERROR)) }
@@ -250,7 +244,6 @@ impl Session {
     }
 
     // Takes a frame that is no datagram.
-    #[inline(always)]
     fn receive_stream_frame(
         &mut self,
         frame: Frame,
@@ -268,7 +261,6 @@ impl Session {
     }
 
     // The same, but for what is queued.
-    #[inline(always)]
     fn take_frame(
         &mut self,
         frame: Frame,
@@ -318,7 +310,6 @@ impl Session {
     }
 
     // What an answer asks for is queued.
-    #[inline(always)]
     fn tell_answer(&mut self, answer: &Result<ShouldTransmit, ReceiveError>)
         ensures told { end_of self.new ≡ with_answer_told answer.now (end_of self.old) }
         ensures beside { beside_of self.new ≡ beside_of self.old }
@@ -335,7 +326,6 @@ impl Session {
 }
 
 // How many bytes of data a frame has.
-#[inline(always)]
 fn data_length(frame: &Frame) -> usize
     ensures { result ≡ data_length frame.now }
 {
@@ -346,7 +336,6 @@ fn data_length(frame: &Frame) -> usize
 }
 
 // The answer for the payload. Where there was no memory to put pieces together, the frame was taken.
-#[inline(always)]
 fn payload_answer(answer: &Result<ShouldTransmit, ReceiveError>) -> Result<(), PayloadError>
     ensures { result ≡ payload_answer answer.now }
 {

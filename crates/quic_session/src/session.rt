@@ -20,6 +20,7 @@ use crate::unsettled::Unsettled;
 use quic_assembler::Chunk;
 use quic_datagrams::{DatagramLimits, DatagramState};
 use quic_streams::state::StreamsState;
+use quic_streams::stats::FrameStats;
 use quic_streams::streams::{ConnState, Streams};
 use quic_streams::{PeerLimits, PendingFrames, Retransmits};
 use quic_values::{Bytes, Dir, OutOfMemory, Side, VarInt};
@@ -58,6 +59,8 @@ pub struct Session {
     pub(crate) told_received: bool,
     pub(crate) told_room: bool,
     pub(crate) unsettled: Unsettled,
+    // How many frames of each kind were written.
+    pub(crate) counters: FrameStats,
     // The memory of the last payload that was written, of the list of chunks of the last read, of the frames of the last
     // payload that came, and of bytes that were read. It is used again.
     pub(crate) bytes: Vec<u8>,
@@ -101,9 +104,10 @@ impl Session {
             told_received: true,
             told_room: true,
             unsettled: Unsettled::new(alloc),
+            counters: FrameStats::new(),
             bytes: Vec::new(alloc),
             chunks: Vec::new(alloc),
-            frames: FrameMemory::new(alloc),
+            frames: FrameMemory::new(),
             pieces: PieceMemory::new(alloc, config.receive_window),
             lent: Vec::new(alloc),
             alloc,
@@ -167,7 +171,6 @@ impl Session {
     }
 
     /// What the application is to be told next of the streams, if there is something.
-    #[inline(always)]
     pub fn poll(&mut self) -> Option<StreamEvent>
         ensures polls { TellsNext (end_of self.old).streams result (end_of self.new).streams }
         ensures pending { (end_of self.new).pending ≡ (end_of self.old).pending }
@@ -210,10 +213,10 @@ impl Session {
     }
 
     // MAX_STREAMS is queued where it is due, if a call was not refused for lack of memory.
-    #[inline(always)]
     pub(crate) fn tell_counts_if(&mut self, handled: bool)
         ensures told { end_of self.new ≡ with_counts_told_if handled (end_of self.old) }
         ensures beside { beside_of self.new ≡ beside_of self.old }
+        ensures lent { self.new.lent ≡ self.old.lent }
     {
         if handled {
             let _ = self.streams.queue_max_stream_id(&mut self.pending);

@@ -48,20 +48,21 @@ impl Unsettled {
         self.held
     }
 
-    /// Makes a place for one more.
-    #[inline(always)]
+    /// Makes a place for one more. Where all that there are have a token, two of the oldest are let go, if their payloads
+    /// were settled.
     pub(crate) fn reserve(&mut self) -> Result<(), OutOfMemory>
         ensures same { unsettled self.new ≡ unsettled self.old }
         ensures next { self.new.next ≡ self.old.next }
         ensures ok { OnOk result (0 < places self.new) }
     {
-        self.drop_settled();
-        self.drop_settled();
+        if self.places.len() == self.places.capacity() {
+            self.drop_settled();
+            self.drop_settled();
+        }
         self.make_room()
     }
 
     // Lets go the oldest place, if its payload was settled.
-    #[inline(always)]
     fn drop_settled(&mut self)
         ensures same { unsettled self.new ≡ unsettled self.old }
         ensures next { self.new.next ≡ self.old.next }
@@ -73,7 +74,6 @@ impl Unsettled {
     }
 
     // Whether there is a place, and the oldest has no payload.
-    #[inline(always)]
     fn is_oldest_settled(&self) -> bool
         ensures { result ≡ true → IsEmptyFirst self.now.places.items }
     {
@@ -84,7 +84,6 @@ impl Unsettled {
     }
 
     // Takes memory for one more place.
-    #[inline(always)]
     fn make_room(&mut self) -> Result<(), OutOfMemory>
         ensures same { unsettled self.new ≡ unsettled self.old }
         ensures next { self.new.next ≡ self.old.next }
@@ -95,7 +94,6 @@ impl Unsettled {
     }
 
     /// Keeps a payload in a place that was made, and gives its token.
-    #[inline(always)]
     pub(crate) fn keep(&mut self, sent: SentPayload) -> u64
         requires { 0 < places self.old }
         ensures { KeepsNew (unsettled self.old) self.old.next sent result (unsettled self.new) self.new.next }
@@ -111,7 +109,6 @@ impl Unsettled {
     }
 
     // Keeps a payload in a new place.
-    #[inline(always)]
     fn put_behind(&mut self, sent: SentPayload)
         requires room { 0 < places self.old }
         requires next { self.old.next ≡ self.old.first + length self.old.places.items }
@@ -134,7 +131,6 @@ impl Unsettled {
     }
 
     // Takes what a place has.
-    #[inline(always)]
     fn take_at(&mut self, index: usize) -> Option<SentPayload>
         requires { index < length self.old.places.items }
         ensures sent { result ≡ unsettled self.old (self.old.first + index) }
@@ -153,7 +149,6 @@ impl Unsettled {
     }
 
     /// Takes a payload out. Its place stays.
-    #[inline(always)]
     pub(crate) fn take(&mut self, token: u64) -> Option<SentPayload>
         ensures sent { result ≡ unsettled self.old token }
         ensures rest { unsettled self.new ≡ with_payload (unsettled self.old) token None }

@@ -1,6 +1,6 @@
 //! What a packet carries of the streams.
 
-use bytes::{Buf, Bytes};
+use bytes::Bytes;
 use quic_streams::Token;
 
 use crate::coding::BufExt;
@@ -33,28 +33,26 @@ pub(super) fn count_control(payload: &[u8], counters: &mut FrameStats) {
     }
 }
 
-/// How many STREAM frames a payload has (RFC 9000 section 19.8).
+/// How many STREAM frames a payload has (RFC 9000 section 19.8). One without a length reaches to its end.
 pub(super) fn count_data(mut payload: &[u8]) -> u64 {
     let mut count = 0;
-    while payload.has_remaining() {
-        let ty = payload.get_u8();
-        let id = payload.get_var();
-        let offset = if ty & 4 == 0 {
-            Ok(0)
-        } else {
-            payload.get_var()
-        };
-        let length = if ty & 2 == 0 {
-            Ok(payload.remaining() as u64)
-        } else {
-            payload.get_var()
-        };
-        let (Ok(id), Ok(offset), Ok(length)) = (id, offset, length) else {
-            break;
-        };
-        tracing::trace!(id, offset, length, fin = ty & 1, "sent STREAM");
-        payload.advance((length as usize).min(payload.remaining()));
+    while let Some((ty, rest)) = payload.split_first() {
+        tracing::trace!(ty, "sent STREAM");
         count += 1;
+        payload = match ty & 2 {
+            0 => &[],
+            _ => behind_frame(*ty, rest).unwrap_or(&[]),
+        };
     }
     count
+}
+
+/// What follows a STREAM frame with a length, whose type was read.
+fn behind_frame(ty: u8, mut payload: &[u8]) -> Option<&[u8]> {
+    payload.get_var().ok()?;
+    if ty & 4 != 0 {
+        payload.get_var().ok()?;
+    }
+    let length = payload.get_var().ok()?;
+    payload.get(usize::try_from(length).ok()?..)
 }

@@ -33,6 +33,8 @@ impl<'a> Chunks<'a> {
 
     /// The next chunk, of at most `max_length` bytes, or `None` at the end of the stream
     ///
+    /// Nothing comes while this lives, so that what follows the last chunk is asked once.
+    ///
     /// `finalize` is to be called after the last of them.
     pub fn next(&mut self, max_length: usize) -> Result<Option<Chunk>, ReadError> {
         assert!(!self.finalized, "next() after finalize()");
@@ -40,9 +42,15 @@ impl<'a> Chunks<'a> {
             return end.clone().map(|()| None);
         }
         match self.streams.read(self.id, self.ordered, max_length) {
+            Ok(Some(piece)) => {
+                if !piece.has_more {
+                    self.end = Some(Err(ReadError::Blocked));
+                }
+                return Ok(Some(piece.chunk));
+            }
             Ok(None) => self.end = Some(Ok(())),
-            Err(ReadError::Reset(code)) => self.end = Some(Err(ReadError::Reset(code))),
-            answer => return answer,
+            Err(ReadError::Blocked) => return Err(ReadError::Blocked),
+            Err(error) => self.end = Some(Err(error)),
         }
         self.next(max_length)
     }

@@ -17,6 +17,14 @@ use std::slice;
 struct Readable {
     /// Whether it was read as bytes came.
     unordered: bool,
+    /// Whether all was read and the application was not told. The library has no such half any more.
+    finished: bool,
+}
+
+/// A chunk, and whether more may be at hand.
+pub(super) struct Piece {
+    pub(super) chunk: Chunk,
+    pub(super) has_more: bool,
 }
 
 /// The streams of a connection
@@ -405,7 +413,9 @@ impl StreamsState {
 
     pub(super) fn stop(&mut self, id: StreamId, code: VarInt) -> Result<(), UnknownStream> {
         self.take_ahead(id);
-        self.readable.remove(&id);
+        if matches!(self.readable.remove(&id), Some(half) if half.finished) {
+            return Ok(());
+        }
         answered(self.end().recv_stream(layer_id(id)).stop(code.into()))
     }
 
@@ -432,13 +442,17 @@ impl StreamsState {
         id: StreamId,
         ordered: bool,
         max_length: usize,
-    ) -> Result<Option<Chunk>, ReadError> {
+    ) -> Result<Option<Piece>, ReadError> {
         if self.is_to_come(id) || max_length == 0 {
             return Err(ReadError::Blocked);
         }
-        let answer = self.read_chunk(id, ordered, max_length);
+        let answer = match self.readable.get(&id) {
+            Some(half) if half.finished => Ok(None),
+            _ if ordered && max_length != usize::MAX => self.read_frames(id, max_length),
+            _ => self.read_chunk(id, ordered, max_length),
+        };
         let closed = match answer {
-            Ok(Some(chunk)) => return Ok(Some(chunk)),
+            Ok(Some(piece)) => return Ok(Some(piece)),
             Err(layer::ReadError::Blocked) => return Err(ReadError::Blocked),
             Ok(None) => Ok(None),
             Err(layer::ReadError::Reset(code)) => Err(ReadError::Reset(code_of(code))),
@@ -448,27 +462,64 @@ impl StreamsState {
         closed
     }
 
-    /// Reads into a buffer of which each chunk takes a part
+    /// Reads the data of several frames in order, as one chunk, for an application that says how much it has room for
+    fn read_frames(
+        &mut self,
+        id: StreamId,
+        max_length: usize,
+    ) -> Result<Option<Piece>, layer::ReadError> {
+        let read = self.read_with(id, max_length, |mut half, room| half.read_many_uninit(room))?;
+        match (read.count, read.next) {
+            (0, layer::Next::Finished) => return Ok(None),
+            (0, _) => return Err(layer::ReadError::Blocked),
+            (_, layer::Next::Finished) => self.readable.entry(id).or_default().finished = true,
+            _ => {}
+        }
+        Ok(Some(Piece {
+            chunk: self.chunk(read.count, read.offset),
+            has_more: read.next != layer::Next::Blocked,
+        }))
+    }
+
+    /// Reads a chunk as it came
     fn read_chunk(
         &mut self,
         id: StreamId,
         ordered: bool,
         max_length: usize,
-    ) -> Result<Option<Chunk>, layer::ReadError> {
+    ) -> Result<Option<Piece>, layer::ReadError> {
+        let read = self.read_with(id, max_length, |mut half, room| {
+            half.read_into_uninit(room, ordered)
+        })?;
+        Ok(read.map(|(count, offset)| Piece {
+            chunk: self.chunk(count, offset),
+            has_more: true,
+        }))
+    }
+
+    /// Has a read put bytes into room, of which each chunk takes a part
+    fn read_with<T>(
+        &mut self,
+        id: StreamId,
+        max_length: usize,
+        read: impl FnOnce(layer::RecvStream<'_>, &mut [MaybeUninit<u8>]) -> T,
+    ) -> T {
         if self.room.capacity() < LONGEST_CHUNK {
             self.room.reserve(ROOM);
         }
         self.due.set(None);
-        let mut half = self.end.get_mut().recv_stream(layer_id(id));
         let room = uninit(self.room.chunk_mut());
         let length = max_length.min(room.len());
-        let Some((count, offset)) = half.read_into_uninit(&mut room[..length], ordered)? else {
-            return Ok(None);
-        };
+        let half = self.end.get_mut().recv_stream(layer_id(id));
+        read(half, &mut room[..length])
+    }
+
+    /// The chunk that the last read put into the room
+    fn chunk(&mut self, count: usize, offset: u64) -> Chunk {
         // SAFETY: the read initialised so many bytes, from the first on.
         unsafe { self.room.advance_mut(count) };
         let bytes = self.room.split().freeze();
-        Ok(Some(Chunk { offset, bytes }))
+        Chunk { offset, bytes }
     }
 
     /// What the application is to be told next
@@ -500,4 +551,4 @@ fn uninit(room: &mut UninitSlice) -> &mut [MaybeUninit<u8>] {
 const LONGEST_CHUNK: usize = 2048;
 
 /// Of so many bytes chunks take parts.
-const ROOM: usize = 1 << 15;
+const ROOM: usize = 1 << 16;
