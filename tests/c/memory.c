@@ -156,14 +156,24 @@ static long kept_of(qs_conn *conn, uint64_t *offset, size_t frames,
   return held - before;
 }
 
-/* Of long pieces that were read none is kept, and of others as many as the
- * receive window has room for. A smaller window lets them go. */
-static void a_window_of_pieces_is_kept(void) {
+/* Of long pieces that were read none is kept. */
+static void a_long_piece_is_not_kept(void) {
   qs_conn conn = QS_CONN_INIT;
   uint64_t offset = 0;
   open_reader(&conn, &offset);
   read_all(&conn);
   SAME(kept_of(&conn, &offset, 100, 4096) < 10, 1);
+  qs_conn_free(&conn);
+  SAME(held, 0);
+}
+
+/* Of others as many are kept as the receive window has room for. A smaller
+ * window lets them go. */
+static void a_window_of_pieces_is_kept(void) {
+  qs_conn conn = QS_CONN_INIT;
+  uint64_t offset = 0;
+  open_reader(&conn, &offset);
+  read_all(&conn);
   long before = held, most = WINDOW / MOST_ROOM;
   long kept = kept_of(&conn, &offset, 900, PIECE);
   SAME(kept >= most && kept < most + 10, 1);
@@ -225,10 +235,11 @@ int main(void) {
   a_frame_takes_no_memory();
   a_payload_takes_no_memory();
   a_buffer_takes_no_memory();
+  a_long_piece_is_not_kept();
   a_window_of_pieces_is_kept();
   few_pieces_are_kept();
   a_short_frame_takes_its_own_memory();
   another_length_is_kept_in_time();
-  printf("memory: 7 tests\n");
+  printf("memory: 8 tests\n");
   return 0;
 }

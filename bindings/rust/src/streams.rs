@@ -305,10 +305,7 @@ impl<'a> RecvStream<'a> {
     /// # Panics
     ///
     /// Where `out` is empty.
-    pub fn read_many_uninit(
-        &mut self,
-        out: &mut [MaybeUninit<u8>],
-    ) -> Result<ReadMany, ReadError> {
+    pub fn read_many_uninit(&mut self, out: &mut [MaybeUninit<u8>]) -> Result<ReadMany, ReadError> {
         assert!(!out.is_empty(), "a read needs room");
         let (mut count, mut offset, mut code) = (0, 0, 0);
         let (conn, id) = (&mut self.state.conn, self.id.0);

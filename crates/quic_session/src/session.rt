@@ -59,7 +59,7 @@ pub struct Session {
     pub(crate) told_received: bool,
     pub(crate) told_room: bool,
     pub(crate) unsettled: Unsettled,
-    // How many frames of each kind were written.
+    // How many control frames of each kind were written. The host is not told, but the writer counts them.
     pub(crate) counters: FrameStats,
     // The memory of the last payload that was written, of the list of chunks of the last read, of the frames of the last
     // payload that came, and of bytes that were read. It is used again.
