@@ -1,6 +1,6 @@
 //! Reads whose bytes are lent: they stay in the memory in which they came.
 
-ghost use Rattle.std.specs.Prelude.{◌≡◌, ◌≤◌, ◌+◌, [], true, length, map, vec_len, vec_capacity};
+ghost use Rattle.std.specs.Prelude.{◌≡◌, ◌≤◌, ◌+◌, [], length, map, vec_len, vec_capacity};
 ghost use Rattle.quic_session.specs.Sessions.{end_of, beside_of};
 ghost use Rattle.quic_session.specs.Lending.{lent_bytes, lends_for, ReadsLent};
 
