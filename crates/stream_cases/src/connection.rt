@@ -58,6 +58,11 @@ fn one_stream(
     network: Network,
 ) -> Result<u64, Refused> {
     let mut link = Link::new(alloc, 1, 0, network)?;
+    send_stream(&mut link, content, size)
+}
+
+// Sends a stream of so many bytes over a link that carried nothing.
+fn send_stream(link: &mut Link, content: Content, size: u64) -> Result<u64, Refused> {
     let Some(id) = link.client.open()? else {
         return Err(Refused);
     };
@@ -67,7 +72,7 @@ fn one_stream(
         if link.is_done() {
             break 'turns;
         }
-        written = fill(&mut link, id, content, written, size)?;
+        written = fill(link, id, content, written, size)?;
         if written == size && !is_finished {
             link.client.finish(id)?;
             is_finished = true;
@@ -103,22 +108,38 @@ fn fill(
 }
 
 fn many_streams(alloc: Global, size: u64, content: Content) -> Result<u64, Refused> {
-    let total = size.div_ceil(STREAM);
-    let mut link = Link::new(alloc, STREAMS, STREAM, Network::Lossless)?;
     let mut ids = Vec::with_capacity(alloc, STREAMS as usize)?;
+    let mut link = Link::new(alloc, STREAMS, STREAM, Network::Lossless)?;
+    send_streams(&mut link, &mut ids, content, size.div_ceil(STREAM))
+}
+
+// Sends so many streams over a link that carried nothing.
+fn send_streams(
+    link: &mut Link,
+    ids: &mut Vec<StreamId>,
+    content: Content,
+    total: u64,
+) -> Result<u64, Refused> {
     let mut opened = 0u64;
     'rounds: for _ in 0..u64::MAX {
         if opened >= total {
             break 'rounds;
         }
-        open_some(&mut link, &mut ids, total - opened)?;
+        open_some(link, ids, total - opened)?;
         opened = opened.saturating_add(ids.len() as u64);
-        for part in 0..PARTS {
-            write_part(&mut link, &ids, content, part)?;
-            turn_until_idle(&mut link)?;
-        }
+        write_parts(link, ids, content)?;
     }
     link.check(total, total.wrapping_mul(STREAM))
+}
+
+// Writes each part of some streams, and sends it.
+#[inline]
+fn write_parts(link: &mut Link, ids: &[StreamId], content: Content) -> Result<(), Refused> {
+    for part in 0..PARTS {
+        write_part(link, ids, content, part)?;
+        turn_until_idle(link)?;
+    }
+    Ok(())
 }
 
 // Opens streams, 1000 and `most` at most, in place of those that were opened before.

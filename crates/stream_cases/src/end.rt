@@ -39,6 +39,13 @@ pub(crate) struct End {
     alloc: Global,
 }
 
+/// A payload that is sent, and what has to be known of it when it is acknowledged or lost.
+#[derive(Drop)]
+pub(crate) struct Payload {
+    pub bytes: Vec<u8>,
+    pub sent: SentPayload,
+}
+
 /// What was read of a stream.
 #[derive(Clone, Copy)]
 pub(crate) struct Read {
@@ -48,12 +55,16 @@ pub(crate) struct Read {
     pub ended: bool,
 }
 
-// The state of an end that permits so many unidirectional streams at a time and no others.
-#[inline(always)]
+// The state of an end that permits so many unidirectional streams at a time and no others, and is permitted as many.
 fn new_state(alloc: Global, side: Side, count: u32) -> Result<StreamsState, OutOfMemory> {
     let (streams, none) = (VarInt::from(count), VarInt::from(0u32));
     let limit = VarInt::from(LIMIT);
-    StreamsState::new(alloc, side, streams, none, u64::from(LIMIT), limit, limit)
+    let window = u64::from(LIMIT);
+    let mut state = StreamsState::new(alloc, side, streams, none, window, limit, limit)?;
+    match permit(&mut state, count) {
+        Ok(()) => Ok(state),
+        Err(error) => Err(error),
+    }
 }
 
 // The peer permits so many unidirectional streams at a time and no others.
@@ -82,10 +93,9 @@ fn see_chunks(seen: &mut Seen, first: u64, chunks: &[Chunk]) {
 impl End {
     /// An end that permits so many unidirectional streams at a time and no others, and is permitted as many.
     pub(crate) fn new(alloc: Global, side: Side, count: u32) -> Result<Self, Refused> {
-        let mut state = new_state(alloc, side, count)?;
-        permit(&mut state, count)?;
+        let streams = new_state(alloc, side, count)?;
         Ok(End {
-            streams: state,
+            streams,
             pending: Retransmits::new(alloc),
             counters: FrameStats::new(),
             frames: Vec::new(alloc),
@@ -161,16 +171,24 @@ impl End {
         first: u64,
         seen: &mut Seen,
     ) -> Result<Option<LastAnswer>, Refused> {
+        match self.read_chunks(id) {
+            Ok(last) => {
+                see_chunks(seen, first, &self.chunks);
+                self.chunks.clear();
+                Ok(Some(last))
+            }
+            Err(ReadableError::ClosedStream) => Ok(None),
+            Err(_) => Err(Refused),
+        }
+    }
+
+    // Reads some chunks into the list. Answers why they are no more.
+    #[inline(always)]
+    fn read_chunks(&mut self, id: StreamId) -> Result<LastAnswer, ReadableError> {
         let list = mem::replace(&mut self.chunks, Vec::new(self.alloc));
-        let batch = match self.read_into(id, list) {
-            Ok(batch) => batch,
-            Err(ReadableError::ClosedStream) => return Ok(None),
-            Err(_) => return Err(Refused),
-        };
-        see_chunks(seen, first, &batch.chunks);
+        let batch = self.read_into(id, list)?;
         self.chunks = batch.chunks;
-        self.chunks.clear();
-        Ok(Some(batch.last))
+        Ok(batch.last)
     }
 
     // The read itself.
@@ -181,13 +199,24 @@ impl End {
     }
 
     /// Writes a payload: control frames, then STREAM frames. It has no bytes where nothing is to be sent.
-    pub(crate) fn emit(&mut self) -> Result<(Vec<u8>, SentPayload), Refused> {
-        let mut bytes = Vec::with_capacity(self.alloc, PIECE)?;
-        let mut control = ThinRetransmits::new(self.alloc);
-        let mut streams = StreamMetaVec::new(self.alloc);
-        self.write_control(&mut bytes, &mut control)?;
-        self.write_data(&mut bytes, &mut streams)?;
-        Ok((bytes, SentPayload { streams, control }))
+    pub(crate) fn emit(&mut self) -> Result<Payload, Refused> {
+        let mut payload = Payload {
+            bytes: Vec::with_capacity(self.alloc, PIECE)?,
+            sent: SentPayload {
+                streams: StreamMetaVec::new(self.alloc),
+                control: ThinRetransmits::new(self.alloc),
+            },
+        };
+        match self.write_frames(&mut payload) {
+            Ok(()) => Ok(payload),
+            Err(_) => Err(Refused),
+        }
+    }
+
+    #[inline(always)]
+    fn write_frames(&mut self, payload: &mut Payload) -> Result<(), OutOfMemory> {
+        self.write_control(&mut payload.bytes, &mut payload.sent.control)?;
+        self.write_data(&mut payload.bytes, &mut payload.sent.streams)
     }
 
     #[inline(always)]
@@ -212,26 +241,22 @@ impl End {
     /// Takes a payload of the peer.
     pub(crate) fn deliver(&mut self, payload: Vec<u8>) -> Result<(), Refused> {
         let payload_len = payload.len();
-        let mut frames = self.decode(payload)?;
-        self.take_all(&mut frames, payload_len)?;
-        self.frames = frames;
+        self.decode(payload)?;
+        take_all(
+            &mut self.streams,
+            &mut self.pending,
+            &mut self.frames,
+            payload_len,
+        )?;
         self.queue_permits();
         Ok(())
     }
 
-    // The frames of a payload, in the list of the last one's.
+    // Reads the frames of a payload, in the list of the last one's.
     #[inline(always)]
-    fn decode(&mut self, payload: Vec<u8>) -> Result<Vec<Frame>, DecodeError> {
+    fn decode(&mut self, payload: Vec<u8>) -> Result<(), DecodeError> {
         let list = mem::replace(&mut self.frames, Vec::new(self.alloc));
-        decode_owned_into(self.alloc, payload, list)
-    }
-
-    // Takes the frames of a payload of so many bytes.
-    #[inline(always)]
-    fn take_all(&mut self, frames: &mut Vec<Frame>, payload_len: usize) -> Result<(), Refused> {
-        for frame in frames.drain(..) {
-            self.take(frame, payload_len)?;
-        }
+        self.frames = decode_owned_into(self.alloc, payload, list)?;
         Ok(())
     }
 
@@ -239,53 +264,6 @@ impl End {
     #[inline(always)]
     fn queue_permits(&mut self) {
         let _ = self.streams.queue_max_stream_id(&mut self.pending);
-    }
-
-    // Takes a frame of a payload of so many bytes.
-    fn take(&mut self, frame: Frame, payload_len: usize) -> Result<(), Refused> {
-        match frame {
-            Frame::Stream(stream) => self.take_data(stream, payload_len),
-            Frame::MaxData(limit) => {
-                self.raise(limit);
-                Ok(())
-            }
-            Frame::MaxStreamData { id, offset } => self.raise_stream(id, offset),
-            Frame::MaxStreams { dir, count } => self.permit_streams(dir, count),
-            Frame::DataBlocked { .. } => Ok(()),
-            Frame::StreamDataBlocked { .. } => Ok(()),
-            _ => Err(Refused),
-        }
-    }
-
-    // Takes data of a payload of so many bytes.
-    #[inline(always)]
-    fn take_data(&mut self, stream: Stream, payload_len: usize) -> Result<(), Refused> {
-        if stream.bytes.len() > payload_len {
-            return Err(Refused);
-        }
-        let answer = self.streams.received(stream, payload_len)?;
-        self.pending.max_data |= answer.should_transmit();
-        Ok(())
-    }
-
-    // Takes the limit of all streams.
-    #[inline(always)]
-    fn raise(&mut self, limit: VarInt) {
-        self.streams.received_max_data(limit);
-    }
-
-    // Takes the limit of a stream.
-    #[inline(always)]
-    fn raise_stream(&mut self, id: StreamId, limit: u64) -> Result<(), Refused> {
-        self.streams.received_max_stream_data(id, limit)?;
-        Ok(())
-    }
-
-    // Takes the number of streams of a direction.
-    #[inline(always)]
-    fn permit_streams(&mut self, dir: Dir, count: u64) -> Result<(), Refused> {
-        self.streams.received_max_streams(dir, count)?;
-        Ok(())
     }
 
     /// A payload was acknowledged.
@@ -303,4 +281,74 @@ impl End {
             Err(_) => Err(Refused),
         }
     }
+}
+
+// Takes the frames of a payload of so many bytes.
+#[inline(always)]
+fn take_all(
+    streams: &mut StreamsState,
+    pending: &mut Retransmits,
+    frames: &mut Vec<Frame>,
+    payload_len: usize,
+) -> Result<(), Refused> {
+    for frame in frames.drain(..) {
+        take(streams, pending, frame, payload_len)?;
+    }
+    Ok(())
+}
+
+// Takes a frame of a payload of so many bytes.
+fn take(
+    streams: &mut StreamsState,
+    pending: &mut Retransmits,
+    frame: Frame,
+    payload_len: usize,
+) -> Result<(), Refused> {
+    match frame {
+        Frame::Stream(stream) => take_data(streams, pending, stream, payload_len),
+        control => take_control(streams, &control),
+    }
+}
+
+// Takes data of a payload of so many bytes.
+#[inline(always)]
+fn take_data(
+    streams: &mut StreamsState,
+    pending: &mut Retransmits,
+    stream: Stream,
+    payload_len: usize,
+) -> Result<(), Refused> {
+    if stream.bytes.len() > payload_len {
+        return Err(Refused);
+    }
+    let answer = streams.received(stream, payload_len)?;
+    pending.max_data |= answer.should_transmit();
+    Ok(())
+}
+
+// Takes a frame that is no data.
+#[inline(always)]
+fn take_control(streams: &mut StreamsState, frame: &Frame) -> Result<(), Refused> {
+    match frame {
+        Frame::MaxData(limit) => {
+            streams.received_max_data(*limit);
+            Ok(())
+        }
+        Frame::MaxStreamData { id, offset } => raise_stream(streams, *id, *offset),
+        Frame::MaxStreams { dir, count } => permit_streams(streams, *dir, *count),
+        Frame::DataBlocked { .. } | Frame::StreamDataBlocked { .. } => Ok(()),
+        _ => Err(Refused),
+    }
+}
+
+// Takes the limit of a stream.
+#[inline(always)]
+fn raise_stream(streams: &mut StreamsState, id: StreamId, limit: u64) -> Result<(), Refused> {
+    Ok(streams.received_max_stream_data(id, limit)?)
+}
+
+// Takes the number of streams of a direction.
+#[inline(always)]
+fn permit_streams(streams: &mut StreamsState, dir: Dir, count: u64) -> Result<(), Refused> {
+    Ok(streams.received_max_streams(dir, count)?)
 }

@@ -1,7 +1,7 @@
 //! Two ends, of which the client sends and the server reads.
 
 use crate::content::Seen;
-use crate::end::End;
+use crate::end::{End, Payload};
 use crate::refused::Refused;
 use quic_streams::SentPayload;
 use quic_values::{Dir, Side, StreamId};
@@ -61,6 +61,15 @@ pub(crate) struct Link {
     tally: Tally,
 }
 
+// A client and a server that permit so many streams at a time.
+fn new_ends(alloc: Global, streams: u32) -> Result<(End, End), Refused> {
+    let client = End::new(alloc, Side::Client, streams)?;
+    match End::new(alloc, Side::Server, streams) {
+        Ok(server) => Ok((client, server)),
+        Err(error) => Err(error),
+    }
+}
+
 impl Link {
     /// Two ends that permit so many streams at a time, of so many bytes each at most.
     pub(crate) fn new(
@@ -69,12 +78,14 @@ impl Link {
         stream_len: u64,
         network: Network,
     ) -> Result<Self, Refused> {
+        let flight = VecDeque::with_capacity(alloc, BURST)?;
+        let (client, server) = new_ends(alloc, streams)?;
         Ok(Link {
-            client: End::new(alloc, Side::Client, streams)?,
-            server: End::new(alloc, Side::Server, streams)?,
+            client,
+            server,
             network,
             stream_len,
-            flight: VecDeque::with_capacity(alloc, BURST)?,
+            flight,
             readable: Vec::new(alloc),
             tally: Tally::default(),
         })
@@ -110,18 +121,26 @@ impl Link {
     // The client writes a payload, which comes or is lost. Answers whether there was one.
     #[inline(always)]
     fn send_one(&mut self) -> Result<bool, Refused> {
-        let (bytes, sent) = self.client.emit()?;
-        if bytes.is_empty() {
+        let payload = self.client.emit()?;
+        if payload.bytes.is_empty() {
             return Ok(false);
         }
+        self.carry(payload)?;
+        Ok(true)
+    }
+
+    // A payload of the client comes or is lost.
+    #[inline(always)]
+    fn carry(&mut self, payload: Payload) -> Result<(), Refused> {
+        let Payload { bytes, sent } = payload;
         let lost = self.is_next_lost();
         self.tally.to_server.see_next(&bytes);
         self.tally.payloads = self.tally.payloads.wrapping_add(1);
-        if !lost {
-            self.server.deliver(bytes)?;
-        }
         self.flight.push_back(InFlight { sent, lost })?;
-        Ok(true)
+        if lost {
+            return Ok(());
+        }
+        self.server.deliver(bytes)
     }
 
     // Whether the next payload of the client is lost.
@@ -189,14 +208,21 @@ impl Link {
     // Answers whether there was a payload.
     #[inline(always)]
     fn answer_once(&mut self) -> Result<bool, Refused> {
-        let (bytes, sent) = self.server.emit()?;
-        if bytes.is_empty() {
+        let payload = self.server.emit()?;
+        if payload.bytes.is_empty() {
             return Ok(false);
         }
+        self.take_answer(payload)?;
+        Ok(true)
+    }
+
+    // A payload of the server comes, and is acknowledged.
+    #[inline(always)]
+    fn take_answer(&mut self, payload: Payload) -> Result<(), Refused> {
+        let Payload { bytes, sent } = payload;
         self.tally.to_client.see_next(&bytes);
         self.client.deliver(bytes)?;
-        self.server.acknowledge(sent)?;
-        Ok(true)
+        self.server.acknowledge(sent)
     }
 
     fn report(&mut self) -> Result<(), Refused> {

@@ -3,7 +3,7 @@ ghost use Rattle.stream_cases.specs.Arguments.{CanRun};
 
 use crate::content::{Content, PIECE, Seen};
 use crate::refused::{REFUSED, Refused};
-use quic_ordered::{Assembler, EnsureError, InsertError};
+use quic_ordered::{Assembler, InsertError};
 use quic_values::OutOfMemory;
 use std::alloc::Global;
 
@@ -131,11 +131,25 @@ fn in_order(alloc: Global, size: usize, content: Content) -> Result<u64, Refused
     ensures { size ≡ 0 → result ≡ Ok 0 }
 {
     let mut assembler = Assembler::new(alloc);
+    pass_in_order(alloc, &mut assembler, content, size)
+}
+
+// The pieces go through an assembler that holds nothing.
+fn pass_in_order(
+    alloc: Global,
+    assembler: &mut Assembler,
+    content: Content,
+    size: usize,
+) -> Result<u64, Refused>
+    requires size { size < 2 ^ 60 }
+    requires mode { assembler.old.ordered ≡ true }
+    ensures { size ≡ 0 → result ≡ Ok 0 }
+{
     let mut seen = Seen::default();
     for offset in (0..size).step_by(PIECE) {
         let len = PIECE.min(size - offset);
-        insert(alloc, &mut assembler, content, offset as u64, len)?;
-        read_all(&mut assembler, true, usize::MAX, &mut seen)?;
+        insert(alloc, assembler, content, offset as u64, len)?;
+        read_all(assembler, true, usize::MAX, &mut seen)?;
     }
     Ok(seen.sum)
 }
@@ -153,17 +167,53 @@ fn in_windows(
     ensures { size ≡ 0 → result ≡ Ok 0 }
 {
     let mut assembler = Assembler::new(alloc);
+    pass_windows(alloc, &mut assembler, content, size, perm, windows)
+}
+
+// The windows go through an assembler that holds nothing.
+fn pass_windows(
+    alloc: Global,
+    assembler: &mut Assembler,
+    content: Content,
+    size: usize,
+    perm: &[u32],
+    windows: Windows,
+) -> Result<u64, Refused>
+    requires size { size < 2 ^ 60 }
+    requires some { 0 < windows.piece }
+    requires piece { windows.piece ≤ 1200 }
+    requires mode { assembler.old.ordered ≡ true }
+    ensures { size ≡ 0 → result ≡ Ok 0 }
+{
     let mut seen = Seen::default();
     for base in (0..size).step_by(WINDOW_PIECES as usize * windows.piece) {
-        for place in perm {
-            if *place < WINDOW_PIECES {
-                let offset = base as u64 + u64::from(*place) * windows.piece as u64;
-                insert(alloc, &mut assembler, content, offset, windows.piece)?;
-            }
-        }
-        read_all(&mut assembler, true, windows.read, &mut seen)?;
+        insert_window(alloc, assembler, content, base as u64, perm, windows.piece)?;
+        read_all(assembler, true, windows.read, &mut seen)?;
     }
     Ok(seen.sum)
+}
+
+// Inserts the pieces of a window, of so many bytes each.
+#[inline]
+fn insert_window(
+    alloc: Global,
+    assembler: &mut Assembler,
+    content: Content,
+    base: u64,
+    perm: &[u32],
+    piece: usize,
+) -> Result<(), Refused>
+    requires base { base < 2 ^ 60 }
+    requires piece { piece ≤ 1200 }
+    ensures { assembler.new.ordered ≡ assembler.old.ordered }
+{
+    for place in perm {
+        if *place < WINDOW_PIECES {
+            let offset = base + u64::from(*place) * piece as u64;
+            insert(alloc, assembler, content, offset, piece)?;
+        }
+    }
+    Ok(())
 }
 
 fn unordered(alloc: Global, size: usize, content: Content, perm: &[u32]) -> Result<u64, Refused>
@@ -173,22 +223,27 @@ fn unordered(alloc: Global, size: usize, content: Content, perm: &[u32]) -> Resu
     if size == 0 {
         return Ok(0);
     }
-    let mut assembler = unordered_assembler(alloc)?;
-    let mut seen = Seen::default();
-    for base in (0..size).step_by(WINDOW) {
-        overlap(alloc, &mut assembler, content, base as u64, perm, &mut seen)?;
-    }
-    read_all(&mut assembler, false, usize::MAX, &mut seen)?;
-    Ok(seen.sum.wrapping_add(seen.bytes))
+    let mut assembler = Assembler::new(alloc);
+    pass_unordered(alloc, &mut assembler, content, size, perm)
 }
 
-#[inline(always)]
-fn unordered_assembler(alloc: Global) -> Result<Assembler, EnsureError>
-    ensures { IfOk result (λ assembler. assembler.ordered ≡ false) }
+// The windows of case d go through an assembler that holds nothing.
+fn pass_unordered(
+    alloc: Global,
+    assembler: &mut Assembler,
+    content: Content,
+    size: usize,
+    perm: &[u32],
+) -> Result<u64, Refused>
+    requires { size < 2 ^ 60 }
 {
-    let mut assembler = Assembler::new(alloc);
     assembler.ensure_ordering(false)?;
-    Ok(assembler)
+    let mut seen = Seen::default();
+    for base in (0..size).step_by(WINDOW) {
+        overlap(alloc, assembler, content, base as u64, perm, &mut seen)?;
+    }
+    read_all(assembler, false, usize::MAX, &mut seen)?;
+    Ok(seen.sum.wrapping_add(seen.bytes))
 }
 
 // One window of case d.
@@ -211,16 +266,34 @@ fn overlap(
             continue;
         }
         let offset = base + u64::from(*place) * PIECE as u64;
-        insert(alloc, assembler, content, offset, PIECE)?;
-        insert(alloc, assembler, content, offset, PIECE)?;
-        if step % 4 == 3 {
-            insert(alloc, assembler, content, before + PIECE as u64 / 2, PIECE)?;
-        }
+        insert_overlapping(alloc, assembler, content, offset, before, step)?;
         if step % 8 == 7 {
             read_all(assembler, false, usize::MAX, seen)?;
         }
         before = offset;
         step = step.wrapping_add(1);
+    }
+    Ok(())
+}
+
+// Inserts the pieces of a step of a window: one twice, and at every fourth step one that overlaps that of the step before.
+#[inline(always)]
+fn insert_overlapping(
+    alloc: Global,
+    assembler: &mut Assembler,
+    content: Content,
+    offset: u64,
+    before: u64,
+    step: u32,
+) -> Result<(), Refused>
+    requires offset { offset < 2 ^ 60 + 1047600 }
+    requires before { before < 2 ^ 60 + 1047600 }
+    ensures { assembler.new.ordered ≡ assembler.old.ordered }
+{
+    insert(alloc, assembler, content, offset, PIECE)?;
+    insert(alloc, assembler, content, offset, PIECE)?;
+    if step % 4 == 3 {
+        insert(alloc, assembler, content, before + PIECE as u64 / 2, PIECE)?;
     }
     Ok(())
 }
@@ -311,7 +384,7 @@ fn with_gaps(
     Ok(sum)
 }
 
-// Inserts single bytes at 1, 3, 5 and so on into a new assembler, until one is refused. Nothing can then be read.
+// Inserts single bytes into a new assembler until one is refused. Nothing can then be read.
 fn insert_until_refused(
     alloc: Global,
     most: usize,
@@ -324,20 +397,58 @@ fn insert_until_refused(
     ensures { IfOk result (λ inserts. (0 < inserts.count) × (inserts.count ≤ most)) }
 {
     let mut assembler = Assembler::new(alloc);
-    let mut count = most;
-    let mut is_refused = false;
-    for index in 0..most {
-        let offset = 2 * index as u64 + 1;
-        is_refused = insert_byte(alloc, &mut assembler, content, offset, allocation_size)?;
-        if is_refused {
-            count = index + 1;
-            break;
-        }
-    }
-    if gives_some(&mut assembler)? {
+    insert_with_gaps(alloc, &mut assembler, most, content, allocation_size)
+}
+
+// The same with an assembler that holds nothing.
+fn insert_with_gaps(
+    alloc: Global,
+    assembler: &mut Assembler,
+    most: usize,
+    content: Content,
+    allocation_size: usize,
+) -> Result<Inserts, Refused>
+    requires some { 0 < most }
+    requires size { most < 2 ^ 60 }
+    requires allocated { 1 ≤ allocation_size }
+    requires mode { assembler.old.ordered ≡ true }
+    ensures { IfOk result (λ inserts. (0 < inserts.count) × (inserts.count ≤ most)) }
+{
+    let inserts = insert_bytes(alloc, assembler, most, content, allocation_size)?;
+    if gives_some(assembler)? {
         return Err(Refused);
     }
-    Ok(Inserts { count, is_refused })
+    Ok(inserts)
+}
+
+// Inserts single bytes at 1, 3, 5 and so on, until one is refused.
+#[inline]
+fn insert_bytes(
+    alloc: Global,
+    assembler: &mut Assembler,
+    most: usize,
+    content: Content,
+    allocation_size: usize,
+) -> Result<Inserts, Refused>
+    requires some { 0 < most }
+    requires size { most < 2 ^ 60 }
+    requires allocated { 1 ≤ allocation_size }
+    ensures count { IfOk result (λ inserts. (0 < inserts.count) × (inserts.count ≤ most)) }
+    ensures mode { assembler.new.ordered ≡ assembler.old.ordered }
+{
+    for index in 0..most {
+        let offset = 2 * index as u64 + 1;
+        if insert_byte(alloc, assembler, content, offset, allocation_size)? {
+            return Ok(Inserts {
+                count: index + 1,
+                is_refused: true,
+            });
+        }
+    }
+    Ok(Inserts {
+        count: most,
+        is_refused: false,
+    })
 }
 
 // Inserts a byte of content at its offset. Answers whether there were too many.

@@ -84,13 +84,43 @@ fn send_rounds(alloc: Global, size: usize, content: Content, round: usize) -> Re
 {
     let mut buffer = SendBuffer::new(alloc);
     let mut frames = Frames::new(alloc);
+    send_each(alloc, &mut buffer, &mut frames, content, size, round)
+}
+
+// The rounds of a buffer to which nothing was written.
+fn send_each(
+    alloc: Global,
+    buffer: &mut SendBuffer,
+    frames: &mut Frames,
+    content: Content,
+    size: usize,
+    round: usize,
+) -> Result<u64, Refused>
+    requires size { size < 2 ^ 60 }
+    requires round { 0 < round }
+    ensures { size ≡ 0 → result ≡ Ok 0 }
+{
     let mut sum = 0u64;
     for start in (0..size).step_by(round) {
-        let end = size.min(start.saturating_add(round));
-        fill(alloc, &mut buffer, content, end as u64)?;
-        sum = sum.wrapping_add(drain(&mut buffer, &mut frames)?);
-        acknowledge_all(&mut buffer, &frames.ranges)?;
+        let end = size.min(start.saturating_add(round)) as u64;
+        sum = sum.wrapping_add(send_round(alloc, buffer, frames, content, end)?);
     }
+    Ok(sum)
+}
+
+// The round that ends at an offset.
+fn send_round(
+    alloc: Global,
+    buffer: &mut SendBuffer,
+    frames: &mut Frames,
+    content: Content,
+    end: u64,
+) -> Result<u64, Refused>
+    requires { end < 2 ^ 61 }
+{
+    fill(alloc, buffer, content, end)?;
+    let sum = drain(buffer, frames)?;
+    acknowledge_all(buffer, &frames.ranges)?;
     Ok(sum)
 }
 
@@ -105,12 +135,26 @@ fn send_with_losses(
 {
     let mut buffer = SendBuffer::new(alloc);
     let mut frames = Frames::new(alloc);
+    send_each_with_losses(alloc, &mut buffer, &mut frames, content, size, perm)
+}
+
+// The rounds of a buffer to which nothing was written.
+fn send_each_with_losses(
+    alloc: Global,
+    buffer: &mut SendBuffer,
+    frames: &mut Frames,
+    content: Content,
+    size: usize,
+    perm: &[u32],
+) -> Result<u64, Refused>
+    requires { size < 2 ^ 60 }
+    ensures { size ≡ 0 → result ≡ Ok 0 }
+{
     let mut sum = 0u64;
     for start in (0..size).step_by(ROUND) {
-        let end = size.min(start.saturating_add(ROUND));
-        fill(alloc, &mut buffer, content, end as u64)?;
-        let sent = send_until_acknowledged(&mut buffer, &mut frames, perm)?;
-        sum = sum.wrapping_add(sent).wrapping_add(buffer.buffered());
+        let end = size.min(start.saturating_add(ROUND)) as u64;
+        fill(alloc, buffer, content, end)?;
+        sum = sum.wrapping_add(send_until_acknowledged(buffer, frames, perm)?);
     }
     Ok(sum)
 }
@@ -121,14 +165,27 @@ fn acknowledge_late(alloc: Global, size: u64, content: Content) -> Result<u64, R
 {
     let mut buffer = SendBuffer::new(alloc);
     let mut frames = Frames::new(alloc);
-    fill(alloc, &mut buffer, content, size)?;
-    let sum = drain(&mut buffer, &mut frames)?;
-    lose_every_other(&mut buffer, &frames.ranges)?;
-    acknowledge_backwards(&mut buffer, &frames.ranges)?;
+    send_and_settle_late(alloc, &mut buffer, &mut frames, content, size)
+}
+
+// The same of a buffer to which nothing was written.
+fn send_and_settle_late(
+    alloc: Global,
+    buffer: &mut SendBuffer,
+    frames: &mut Frames,
+    content: Content,
+    size: u64,
+) -> Result<u64, Refused>
+    requires { size < 2 ^ 60 }
+{
+    fill(alloc, buffer, content, size)?;
+    let sum = drain(buffer, frames)?;
+    lose_every_other(buffer, &frames.ranges)?;
+    acknowledge_backwards(buffer, &frames.ranges)?;
     Ok(sum.wrapping_add(buffer.buffered()))
 }
 
-// Sends what is to be sent, and again what is lost of it.
+// Sends what is to be sent, and again what is lost of it. Answers what was seen, and how much is retained at the end.
 fn send_until_acknowledged(
     buffer: &mut SendBuffer,
     frames: &mut Frames,
@@ -142,7 +199,7 @@ fn send_until_acknowledged(
         sum = sum.wrapping_add(drain(buffer, frames)?);
         settle(buffer, &frames.ranges, perm)?;
     }
-    Ok(sum)
+    Ok(sum.wrapping_add(buffer.buffered()))
 }
 
 // Writes content up to an offset, in pieces of 65,536 bytes.

@@ -1,5 +1,5 @@
 use Rattle.std.proofs.Common.{◌≡◌, true}
-use Rattle.stream_cases.proofs.reassembly.in_order.Given as goal
+use Rattle.stream_cases.proofs.reassembly.pass_in_order.Given as goal
 
 abbrev pub invariant-loop-offset : goal.invariant-loop-offset
 invariant-loop-offset l =

@@ -1,5 +1,5 @@
 use Rattle.std.proofs.Common.{◌≡◌, true}
-use Rattle.stream_cases.proofs.reassembly.in_windows.Given as goal
+use Rattle.stream_cases.proofs.reassembly.pass_windows.Given as goal
 
 abbrev pub invariant-loop-base : goal.invariant-loop-base
 invariant-loop-base l =
@@ -7,6 +7,3 @@ invariant-loop-base l =
       mode : l.assembler.ordered ≡ true;
       nothing : l.size ≡ 0 → l.seen.sum ≡ 0;
     }
-
-abbrev pub invariant-loop-place : goal.invariant-loop-place
-invariant-loop-place l = l.assembler.ordered ≡ true

@@ -1,5 +1,5 @@
 use Rattle.std.proofs.Common.{◌≡◌}
-use Rattle.stream_cases.proofs.sending.send_rounds.Given as goal
+use Rattle.stream_cases.proofs.sending.send_each.Given as goal
 
 abbrev pub invariant-loop-start : goal.invariant-loop-start
 invariant-loop-start l = l.size ≡ 0 → l.sum ≡ 0
