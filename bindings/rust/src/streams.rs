@@ -302,6 +302,29 @@ impl<'a> RecvStream<'a> {
     /// Reads as [`RecvStream::read_many`] does, into memory that need not be initialised. As many bytes as it returns, from
     /// the first of `out` on, are initialised then. The others stay as they were.
     ///
+    /// ```
+    /// # use quic_streams::{Config, Dir, Emit, Limits, Next, Side, StreamsState};
+    /// # fn main() -> Result<(), Box<dyn std::error::Error>> {
+    /// # let config = Config::default();
+    /// # let mut client = StreamsState::new(Side::Client, &config)?;
+    /// # let mut server = StreamsState::new(Side::Server, &config)?;
+    /// # client.set_params(&Limits::of(&config))?;
+    /// # let id = client.open(Dir::Uni)?.unwrap();
+    /// # client.send_stream(id).write(b"hello")?;
+    /// # let mut packet = [0; 100];
+    /// # let payload = client.emit(&mut packet, Emit::default())?.unwrap();
+    /// # server.receive(&packet[..payload.len])?;
+    /// # server.accept(Dir::Uni);
+    /// let mut text = Vec::with_capacity(4096);
+    /// let read = server.recv_stream(id).read_many_uninit(text.spare_capacity_mut())?;
+    /// // SAFETY: so many bytes are initialised, from the first on.
+    /// unsafe { text.set_len(read.count) };
+    /// assert_eq!(text, b"hello");
+    /// assert_eq!((read.offset, read.next), (0, Next::Blocked));
+    /// # Ok(())
+    /// # }
+    /// ```
+    ///
     /// # Panics
     ///
     /// Where `out` is empty.
