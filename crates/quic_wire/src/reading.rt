@@ -6,6 +6,7 @@ ghost use Rattle.quic_wire.specs.declared.frame.Frame.TheVariants as FrameValues
 ghost use Rattle.quic_wire.specs.Reading.{AreLast, ReadsAs, last_frame, with_last_frame, wide_at, number_at, two_at, offset_at, content_at, reset_at, stop_at, stream_at, max_data_at, max_stream_data_at, max_streams_at, data_blocked_at, stream_data_blocked_at, datagram_at, frame_at};
 
 use crate::frame::{Datagram, DecodeError, Frame, ResetStream, StopSending, Stream};
+use crate::memory::{ByteMemory, PieceMemory};
 use quic_values::{Bytes, Dir, StreamId, VarInt};
 use std::alloc::Global;
 
@@ -89,11 +90,15 @@ fn offset_at(with_offset: bool, bytes: &[u8]) -> Result<(u64, &[u8]), DecodeErro
 }
 
 #[tactic(auto, unfolding(crate::specs::Reading::content_at))]
-fn content_at(alloc: Global, with_length: bool, bytes: &[u8]) -> Result<(Bytes, &[u8]), DecodeError>
+fn content_at<'a, M: ByteMemory>(
+    memory: &mut M,
+    with_length: bool,
+    bytes: &'a [u8],
+) -> Result<(Bytes, &'a [u8]), DecodeError>
     ensures { ReadsAs (λ x. (x.0, x.1.now)) result (content_at with_length bytes.now) }
 {
     if !with_length {
-        return Ok((Bytes::copy_from_slice(alloc, bytes)?, &[]));
+        return Ok((Bytes::from(memory.copy_of(bytes)?), &[]));
     }
     let (length, rest) = number_at(bytes)?;
     let length = length as usize;
@@ -101,7 +106,7 @@ fn content_at(alloc: Global, with_length: bool, bytes: &[u8]) -> Result<(Bytes, 
         return Err(DecodeError::Malformed);
     }
     let (content, rest) = rest.split_at(length);
-    Ok((Bytes::copy_from_slice(alloc, content)?, rest))
+    Ok((Bytes::from(memory.copy_of(content)?), rest))
 }
 
 #[tactic(auto, unfolding(crate::specs::Reading::reset_at))]
@@ -131,12 +136,16 @@ fn stop_at(bytes: &[u8]) -> Result<(Frame, &[u8]), DecodeError>
 }
 
 #[tactic(auto, unfolding(crate::specs::Reading::stream_at))]
-fn stream_at(alloc: Global, kind: u8, bytes: &[u8]) -> Result<(Frame, &[u8]), DecodeError>
+fn stream_at<'a, M: ByteMemory>(
+    memory: &mut M,
+    kind: u8,
+    bytes: &'a [u8],
+) -> Result<(Frame, &'a [u8]), DecodeError>
     ensures { ReadsAs (λ x. (x.0, x.1.now)) result (stream_at kind bytes.now) }
 {
     let (id, rest) = number_at(bytes)?;
     let (offset, rest) = offset_at(kind & 0x04 != 0, rest)?;
-    let (bytes, rest) = content_at(alloc, kind & 0x02 != 0, rest)?;
+    let (bytes, rest) = content_at(memory, kind & 0x02 != 0, rest)?;
     let frame = Stream {
         id: StreamId::from(VarInt::new(id)),
         offset,
@@ -189,15 +198,22 @@ fn stream_data_blocked_at(bytes: &[u8]) -> Result<(Frame, &[u8]), DecodeError>
 }
 
 #[tactic(auto, unfolding(crate::specs::Reading::datagram_at))]
-fn datagram_at(alloc: Global, kind: u8, bytes: &[u8]) -> Result<(Frame, &[u8]), DecodeError>
+fn datagram_at<'a, M: ByteMemory>(
+    memory: &mut M,
+    kind: u8,
+    bytes: &'a [u8],
+) -> Result<(Frame, &'a [u8]), DecodeError>
     ensures { ReadsAs (λ x. (x.0, x.1.now)) result (datagram_at kind bytes.now) }
 {
-    let (bytes, rest) = content_at(alloc, kind & 0x01 != 0, bytes)?;
+    let (bytes, rest) = content_at(memory, kind & 0x01 != 0, bytes)?;
     Ok((Frame::Datagram(Datagram { bytes }), rest))
 }
 
 #[tactic(auto, unfolding(crate::specs::Reading::frame_at))]
-fn frame_at(alloc: Global, bytes: &[u8]) -> Result<(Frame, &[u8]), DecodeError>
+fn frame_at<'a, M: ByteMemory>(
+    memory: &mut M,
+    bytes: &'a [u8],
+) -> Result<(Frame, &'a [u8]), DecodeError>
     ensures { ReadsAs (λ x. (x.0, x.1.now)) result (frame_at bytes.now) }
 {
     let [kind, bytes @ ..] = bytes else {
@@ -206,14 +222,14 @@ fn frame_at(alloc: Global, bytes: &[u8]) -> Result<(Frame, &[u8]), DecodeError>
     match *kind {
         0x04 => reset_at(bytes),
         0x05 => stop_at(bytes),
-        0x08..=0x0f => stream_at(alloc, *kind, bytes),
+        0x08..=0x0f => stream_at(memory, *kind, bytes),
         0x10 => max_data_at(bytes),
         0x11 => max_stream_data_at(bytes),
         0x12 => max_streams_at(Dir::Bi, bytes),
         0x13 => max_streams_at(Dir::Uni, bytes),
         0x14 => data_blocked_at(bytes),
         0x15 => stream_data_blocked_at(bytes),
-        0x30..=0x31 => datagram_at(alloc, *kind, bytes),
+        0x30..=0x31 => datagram_at(memory, *kind, bytes),
         _ => Err(DecodeError::Malformed),
     }
 }
@@ -303,8 +319,8 @@ fn whole_stream(bytes: &[u8]) -> Option<LastStream>
 
 // What `decode` answers, in a list that is given empty; where `keeps` is set, a STREAM frame that ends with the payload
 // is handed out beside the list, its data not yet taken from the payload.
-fn decode_front(
-    alloc: Global,
+fn decode_front<M: ByteMemory>(
+    memory: &mut M,
     payload: &[u8],
     keeps: bool,
     empty: Vec<Frame>,
@@ -324,7 +340,7 @@ fn decode_front(
                 return Ok((frames, Some(last.behind(payload.len() - rest.len()))));
             }
         }
-        let (frame, after) = frame_at(alloc, rest)?;
+        let (frame, after) = frame_at(memory, rest)?;
         frames.push(frame)?;
         rest = after;
     }
@@ -344,7 +360,8 @@ pub fn decode(alloc: Global, payload: &[u8]) -> Result<Vec<Frame>, DecodeError>
     // Only what spells no frames is malformed.
     ensures malformed { IsErrOf result DecodeError.Malformed → (fs : List FrameValue) → ¬ AreFrames payload.now fs }
 {
-    let (frames, _) = decode_front(alloc, payload, false, Vec::new(alloc))?;
+    let mut memory = alloc;
+    let (frames, _) = decode_front(&mut memory, payload, false, Vec::new(alloc))?;
     Ok(frames)
 }
 
@@ -371,11 +388,42 @@ pub fn decode_owned_into(
     ensures within { IfOk result (λ frames. All (IsFrameWithin (length payload.items)) frames.items) }
     ensures malformed { IsErrOf result DecodeError.Malformed → (fs : List FrameValue) → ¬ AreFrames payload.items fs }
 {
+    let mut memory = alloc;
+    decode_within(&mut memory, payload, list)
+}
+
+/// The same, where data that are copied are put into memory that was used before, if some is fit for them. The memory of the
+/// payload is kept there, if no frame keeps it.
+pub fn decode_owned_reusing(
+    memory: &mut PieceMemory,
+    payload: Vec<u8>,
+    list: Vec<Frame>,
+) -> Result<Vec<Frame>, DecodeError>
+    ensures found { IfOk result (λ frames. AreFrames payload.items frames.items) }
+    ensures only { (fs : List FrameValue) → AreFrames payload.items fs → ReadsAs (λ frames. frames.items) result (Some fs) }
+    ensures within { IfOk result (λ frames. All (IsFrameWithin (length payload.items)) frames.items) }
+    ensures malformed { IsErrOf result DecodeError.Malformed → (fs : List FrameValue) → ¬ AreFrames payload.items fs }
+{
+    decode_within(memory, payload, list)
+}
+
+// The same, with memory of any kind for what is copied.
+fn decode_within<M: ByteMemory>(
+    memory: &mut M,
+    payload: Vec<u8>,
+    list: Vec<Frame>,
+) -> Result<Vec<Frame>, DecodeError>
+    ensures found { IfOk result (λ frames. AreFrames payload.items frames.items) }
+    ensures only { (fs : List FrameValue) → AreFrames payload.items fs → ReadsAs (λ frames. frames.items) result (Some fs) }
+    ensures within { IfOk result (λ frames. All (IsFrameWithin (length payload.items)) frames.items) }
+    ensures malformed { IsErrOf result DecodeError.Malformed → (fs : List FrameValue) → ¬ AreFrames payload.items fs }
+{
     let mut frames = list;
     frames.clear();
     let keeps = payload.capacity() / 6 <= payload.len() / 5;
-    let (mut frames, last) = decode_front(alloc, &payload, keeps, frames)?;
+    let (mut frames, last) = decode_front(memory, &payload, keeps, frames)?;
     let Some(last) = last else {
+        memory.put(payload);
         return Ok(frames);
     };
     frames.push(last.with_payload(payload))?;

@@ -6,7 +6,7 @@ use Rattle.quic_wire.proofs.Steps.{IsBytes}
 use Rattle.quic_wire.proofs.reading.decode_front.Given as goal
 
 abbrev pub invariant-loop-rest : goal.invariant-loop-rest
-invariant-loop-rest l = record {
+invariant-loop-rest g l = record {
   fits : IsBytes l.rest;
   last : AreLast l.rest l.payload;
   found : (fs : List Frame) → AreFrames l.rest fs → AreFrames l.payload (l.frames.items ++ fs);
@@ -14,4 +14,4 @@ invariant-loop-rest l = record {
 }
 
 abbrev pub decreases-loop-rest : goal.decreases-loop-rest
-decreases-loop-rest l = length l.rest
+decreases-loop-rest g l = length l.rest
