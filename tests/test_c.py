@@ -86,7 +86,7 @@ class Programs(Built):
         self.assertIn("allocations", run(self.build("failing", *WRAPS)))
 
     def test_memory_is_used_again(self):
-        self.assertIn("8 tests", run(self.build("memory", *WRAPS)))
+        self.assertIn("9 tests", run(self.build("memory", *WRAPS)))
 
     def test_hostile_payloads(self):
         self.assertIn(f"{PAYLOADS} payloads", run(self.build("hostile"), PAYLOADS))

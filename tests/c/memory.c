@@ -3,7 +3,13 @@
 #include "check.h"
 #include "wrapped.h"
 
-enum { WINDOW = 1 << 20, PIECE = 1100, MOST_ROOM = 2048, MOST_KEPT = 1024 };
+enum {
+  WINDOW = 1 << 20,
+  PIECE = 1100,
+  SHORT = 250,
+  MOST_ROOM = 2048,
+  MOST_KEPT = 1024
+};
 
 static uint8_t text[1 << 16];
 
@@ -39,6 +45,28 @@ static void take_payload(qs_conn *conn, uint64_t *offset, size_t len) {
   memcpy(payload + 6, text, len);
   SAME(qs_receive(conn, payload, len + 6, &next, &error), QS_OK);
   *offset += len;
+}
+
+/* The same, in a payload of several frames, each with its length. */
+static void take_short_ones(qs_conn *conn, uint64_t *offset, size_t len) {
+  uint8_t payload[2000];
+  qs_error error = {0, 0, {0}};
+  size_t next = 0, end = 0;
+  for (int frame = 0; frame < 4; frame++) {
+    const uint8_t head[] = {0x0e,
+                            2,
+                            0x80,
+                            (uint8_t)(*offset >> 16),
+                            (uint8_t)(*offset >> 8),
+                            (uint8_t)*offset,
+                            (uint8_t)(0x40 | len >> 8),
+                            (uint8_t)len};
+    memcpy(payload + end, head, sizeof head);
+    memcpy(payload + end + sizeof head, text, len);
+    end += sizeof head + len;
+    *offset += len;
+  }
+  SAME(qs_receive(conn, payload, end, &next, &error), QS_OK);
 }
 
 static qs_buffer buffer = QS_BUFFER_INIT;
@@ -111,15 +139,15 @@ typedef void taken(qs_conn *conn, uint64_t *offset, size_t len);
 typedef size_t seen(qs_conn *conn);
 
 /* What comes and is read takes no memory, once as much came before. */
-static void takes_none(taken *take, seen *read) {
+static void takes_none(taken *take, seen *read, size_t len) {
   qs_conn conn = QS_CONN_INIT;
   uint64_t offset = 0;
   open_reader(&conn, &offset);
   for (int round = 0; round < 20; round++) {
     long before = asked;
     for (int frame = 0; frame < 10; frame++)
-      take(&conn, &offset, (size_t)(PIECE + frame));
-    SAME(read(&conn) >= 10 * PIECE, 1);
+      take(&conn, &offset, len + (size_t)frame % 4);
+    SAME(read(&conn) >= 10 * len, 1);
     if (round > 2)
       SAME(asked - before, 0);
   }
@@ -129,18 +157,25 @@ static void takes_none(taken *take, seen *read) {
 }
 
 static void a_frame_takes_no_memory(void) {
-  takes_none(take_in, read_all);
-  takes_none(take_in, read_lent);
+  takes_none(take_in, read_all, PIECE);
+  takes_none(take_in, read_lent, PIECE);
 }
 
 static void a_payload_takes_no_memory(void) {
-  takes_none(take_payload, read_all);
-  takes_none(take_payload, read_lent);
+  takes_none(take_payload, read_all, PIECE);
+  takes_none(take_payload, read_lent, PIECE);
 }
 
 static void a_buffer_takes_no_memory(void) {
-  takes_none(take_buffer, read_all);
-  takes_none(take_buffer, read_lent);
+  takes_none(take_buffer, read_all, PIECE);
+  takes_none(take_buffer, read_lent, PIECE);
+}
+
+static void short_frames_take_no_memory(void) {
+  takes_none(take_in, read_all, SHORT);
+  takes_none(take_in, read_lent, SHORT);
+  takes_none(take_short_ones, read_all, SHORT);
+  takes_none(take_short_ones, read_lent, SHORT);
 }
 
 /* So many frames come and are read; answers how many pieces of memory are held
@@ -169,13 +204,13 @@ static void a_long_piece_is_not_kept(void) {
 
 /* Of others as many are kept as the receive window has room for. A smaller
  * window lets them go. */
-static void a_window_of_pieces_is_kept(void) {
+static void a_window_of_pieces_is_kept(size_t len) {
   qs_conn conn = QS_CONN_INIT;
   uint64_t offset = 0;
   open_reader(&conn, &offset);
   read_all(&conn);
   long before = held, most = WINDOW / MOST_ROOM;
-  long kept = kept_of(&conn, &offset, 900, PIECE);
+  long kept = kept_of(&conn, &offset, 900, len);
   SAME(kept >= most && kept < most + 10, 1);
   SAME(qs_set_receive_window(&conn, WINDOW / 2), QS_OK);
   SAME(held - before < 10, 1);
@@ -184,12 +219,12 @@ static void a_window_of_pieces_is_kept(void) {
 }
 
 /* Of a window that has room for more, so many are kept. */
-static void few_pieces_are_kept(void) {
+static void few_pieces_are_kept(size_t len) {
   qs_conn conn = QS_CONN_INIT;
   uint64_t offset = 0;
   open_window(&conn, &offset, 4 * WINDOW);
   read_all(&conn);
-  long kept = kept_of(&conn, &offset, 1500, PIECE);
+  long kept = kept_of(&conn, &offset, 1500, len);
   SAME(kept >= MOST_KEPT && kept < MOST_KEPT + 10, 1);
   qs_conn_free(&conn);
   SAME(held, 0);
@@ -235,11 +270,14 @@ int main(void) {
   a_frame_takes_no_memory();
   a_payload_takes_no_memory();
   a_buffer_takes_no_memory();
+  short_frames_take_no_memory();
   a_long_piece_is_not_kept();
-  a_window_of_pieces_is_kept();
-  few_pieces_are_kept();
+  a_window_of_pieces_is_kept(PIECE);
+  a_window_of_pieces_is_kept(SHORT);
+  few_pieces_are_kept(PIECE);
+  few_pieces_are_kept(SHORT);
   a_short_frame_takes_its_own_memory();
   another_length_is_kept_in_time();
-  printf("memory: 8 tests\n");
+  printf("memory: 9 tests\n");
   return 0;
 }

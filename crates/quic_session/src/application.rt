@@ -17,6 +17,7 @@ ghost use Rattle.quic_endpoint.specs.Ends.{with_world, FinishesAt, ResetsAt, Set
 ghost use Rattle.quic_session.specs.Sessions.{end_of, beside_of};
 ghost use Rattle.quic_session.specs.Reading.{ReadsInto, CopiesChunk, AreFew};
 
+use crate::memory::put_chunks;
 use crate::session::Session;
 use quic_assembler::Chunk;
 use quic_receiving::{HandleError, ReadableError};
@@ -344,7 +345,7 @@ impl Session {
         let some = self.read_given(id, ordered, out.len(), 1, list)?;
         let read = put_chunk(&some, out);
         let mut list = some.chunks;
-        self.pieces.put_all(&mut list);
+        put_chunks(&mut self.pieces, &mut list);
         self.chunks = list;
         Ok(read)
     }

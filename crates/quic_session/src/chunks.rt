@@ -6,6 +6,7 @@ ghost use Rattle.quic_session.specs.Sessions.{beside_of};
 ghost use Rattle.quic_session.specs.Reading.{chunk_bytes, offset_of_first, chunks_for, ReadsManyInto};
 
 use crate::application::ReadInto;
+use crate::memory;
 use crate::session::Session;
 use quic_assembler::Chunk;
 use quic_receiving::ReadableError;
@@ -31,7 +32,7 @@ impl Session {
         let offset = offset_of_first(&some.chunks);
         let last = some.last;
         let mut list = some.chunks;
-        self.pieces.put_all(&mut list);
+        memory::put_chunks(&mut self.pieces, &mut list);
         self.chunks = list;
         Ok(ReadInto {
             count,

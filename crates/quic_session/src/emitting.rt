@@ -8,12 +8,12 @@ ghost use Rattle.quic_session.specs.Tokens.{unsettled, places, KeepsNew};
 ghost use Rattle.quic_session.specs.Emitting.{payload_of, writing_of, WritesControl, WritesDatagrams, WritesStreams, SendsOldest, AreSent, with_datagrams_sent, IfAsked, WritesParts, EmitsPayload, EmitsLent, KeepsBuffer, IsLent, GoesOnWithFrames};
 
 use crate::buffer::Buffer;
-use crate::memory::{is_kept, room_for};
 use crate::session::Session;
 use quic_datagrams::DatagramState;
 use quic_streams::{SentPayload, StreamMetaVec, ThinRetransmits};
 use quic_values::OutOfMemory;
 use quic_wire::frame::Datagram;
+use quic_wire::memory::{is_kept, room_for};
 use std::alloc::Global;
 use std::mem;
 

@@ -7,6 +7,7 @@ ghost use Rattle.quic_session.specs.Lending.{lent_bytes, lends_for, ReadsLent};
 use crate::application::ReadInto;
 use crate::chunks::offset_of_first;
 use crate::lent_bytes::LentBytes;
+use crate::memory::put_lent;
 use crate::session::Session;
 use quic_assembler::Chunk;
 use quic_receiving::ReadableError;
@@ -64,7 +65,7 @@ impl Session {
         ensures end { end_of self.new ≡ end_of self.old }
         ensures beside { beside_of self.new ≡ beside_of self.old }
     {
-        self.pieces.put_lent(&mut self.lent);
+        put_lent(&mut self.pieces, &mut self.lent);
     }
 }
 

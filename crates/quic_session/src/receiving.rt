@@ -10,12 +10,12 @@ ghost use Rattle.quic_session.specs.Sessions.{end_of, datagrams_view, beside_of}
 ghost use Rattle.quic_session.specs.Receiving.{KeepsDatagram, ReceivesFrame, ReceivesOnly, ReceivesPayload, ReceivesFrames, ReceivesFrom, payload_answer, is_misdirected, call_of};
 
 use crate::buffer::Buffer;
-use crate::memory::is_fit;
 use crate::session::Session;
 use quic_receiving::ShouldTransmit;
 use quic_values::{Bytes, Dir, OutOfMemory};
 use quic_wire::frame::{Datagram, StopSending};
-use quic_wire::{DecodeError, Frame, ReceiveError, TransportError, decode_owned_into};
+use quic_wire::memory::is_fit;
+use quic_wire::{DecodeError, Frame, ReceiveError, TransportError, decode_owned_reusing};
 use std::mem;
 use thiserror::Error;
 
@@ -50,7 +50,7 @@ impl Session {
         ensures receives { ReceivesPayload self.old payload.now first result self.new }
         ensures others { ReceivesOnly self.old self.new }
     {
-        match self.pieces.copy_of(self.alloc, payload) {
+        match self.pieces.copy_of(payload) {
             Ok(bytes) => self.receive_owned(bytes, first),
             Err(_) => Received {
                 next: first,
@@ -69,7 +69,7 @@ impl Session {
         if !is_fit(buffer.bytes.capacity(), len) {
             return self.receive(&buffer.bytes[..len], first);
         }
-        let spare = self.pieces.spare(self.alloc);
+        let spare = self.pieces.spare();
         let mut payload = mem::replace(&mut buffer.bytes, spare);
         payload.truncate(len);
         self.receive_owned(payload, first)
@@ -82,7 +82,7 @@ impl Session {
     {
         let list = self.frames.take(self.alloc);
         let payload_len = payload.len();
-        match decode_owned_into(self.alloc, payload, list) {
+        match decode_owned_reusing(&mut self.pieces, payload, list) {
             Ok(frames) => self.receive_frames(frames, payload_len, first),
             Err(DecodeError::Malformed) => Received {
                 next: first,
@@ -101,7 +101,7 @@ impl Session {
         ensures copy { IfOk result (λ copy. copy ≡ bytes.now) }
         ensures same { self.new ≡ self.old }
     {
-        Ok(Bytes::from(self.pieces.copy_of(self.alloc, bytes)?))
+        Ok(Bytes::from(self.pieces.copy_of(bytes)?))
     }
 
     // Takes the frames of a payload, from a place on.

@@ -15,7 +15,7 @@ ghost use Rattle.quic_session.specs.Sessions.{end_of, beside_of, datagrams_view,
 ghost use Rattle.quic_session.specs.Tokens.{unsettled};
 
 use crate::lent_bytes::LentBytes;
-use crate::memory::{FrameMemory, PieceMemory};
+use crate::memory::{FrameMemory, pieces_within};
 use crate::unsettled::Unsettled;
 use quic_assembler::Chunk;
 use quic_datagrams::{DatagramLimits, DatagramState};
@@ -24,7 +24,7 @@ use quic_streams::stats::FrameStats;
 use quic_streams::streams::{ConnState, Streams};
 use quic_streams::{PeerLimits, PendingFrames, Retransmits};
 use quic_values::{Bytes, Dir, OutOfMemory, Side, VarInt};
-use quic_wire::StreamEvent;
+use quic_wire::{PieceMemory, StreamEvent};
 use std::alloc::Global;
 
 /// What a session begins with.
@@ -108,7 +108,7 @@ impl Session {
             bytes: Vec::new(alloc),
             chunks: Vec::new(alloc),
             frames: FrameMemory::new(),
-            pieces: PieceMemory::new(alloc, config.receive_window),
+            pieces: PieceMemory::new(alloc, pieces_within(config.receive_window)),
             lent: Vec::new(alloc),
             alloc,
         })
@@ -146,7 +146,7 @@ impl Session {
     {
         let larger = self.streams.set_receive_window(window);
         self.pending.queue_max_data(larger);
-        self.pieces.set_window(window);
+        self.pieces.set_most(pieces_within(window));
         larger
     }
 

@@ -13,7 +13,7 @@ pub use error::{ReceiveError, TransportError};
 pub use event::StreamEvent;
 pub use frame::{DecodeError, Frame};
 pub use laws::{all_spelled_so, frames_join, number_sizes, same_frames, spelled_so};
+pub use memory::PieceMemory;
 pub use quic_ranges::{RangeSet, same_set};
 pub use quic_values::{Bytes, Dir, MAX_STREAM_COUNT, Oom, OutOfMemory, Side, StreamId, VarInt};
-pub use memory::PieceMemory;
 pub use reading::{decode, decode_owned, decode_owned_into, decode_owned_reusing};

@@ -1,7 +1,7 @@
 use quic_wire::frame::{Crypto, Datagram, ResetStream, StopSending, Stream, StreamMeta};
 use quic_wire::{
-    Bytes, DecodeError, Dir, Frame, OutOfMemory, ReceiveError, Side, StreamId, TransportError,
-    VarInt, decode, decode_owned, decode_owned_into,
+    Bytes, DecodeError, Dir, Frame, OutOfMemory, PieceMemory, ReceiveError, Side, StreamId,
+    TransportError, VarInt, decode, decode_owned, decode_owned_into, decode_owned_reusing,
 };
 use std::alloc::Global;
 use std::fmt::Debug;
@@ -82,6 +82,14 @@ fn decoded_into(
     list: Vec<Frame>,
 ) -> Result<Vec<Frame>, DecodeError> {
     decode_owned_into(alloc, payload, list)
+}
+
+fn decoded_reusing(
+    memory: &mut PieceMemory,
+    payload: Vec<u8>,
+    list: Vec<Frame>,
+) -> Result<Vec<Frame>, DecodeError> {
+    decode_owned_reusing(memory, payload, list)
 }
 
 fn written_data(
@@ -420,6 +428,45 @@ fn kept(alloc: Global, room: usize) -> Result<(usize, usize), Fail> {
 fn only_a_payload_with_little_room_is_kept(rt: HostRuntime) -> Result<(), Fail> {
     same(&rt, kept(rt.alloc(), 31)?, (31, 3));
     same(&rt, kept(rt.alloc(), 65_536)?, (28, 0));
+    Ok(())
+}
+
+// How much room the memory has in which the data of a frame stand that ends no payload, where there was a piece with so much
+// room. The payload's own memory is a piece then.
+fn reused(rt: &impl Abort, alloc: Global, size: usize, room: usize) -> Result<usize, Fail> {
+    let mut memory = PieceMemory::new(alloc, 2);
+    memory.put(Vec::with_capacity(alloc, room)?);
+    let content = seeded(alloc, size)?;
+    let mut payload = written_data(rt, alloc, &data(alloc, 5, &content)?, true)?;
+    payload.extend_from_slice(&[0x10, 33])?;
+    payload.reserve_exact(2048usize.saturating_sub(payload.len()))?;
+    let mut frames = decoded_reusing(&mut memory, payload, Vec::new(alloc))?;
+    same(rt, memory.spare().capacity(), 2048);
+    same(rt, frames.len(), 2);
+    frames.truncate(1);
+    match frames.pop() {
+        Some(Frame::Stream(frame)) => {
+            same(rt, frame.bytes.as_slice(), content.as_slice());
+            Ok(frame.bytes.into_parts().0.capacity())
+        }
+        _ => Ok(0),
+    }
+}
+
+#[test]
+fn data_are_put_into_memory_that_is_fit(rt: HostRuntime) -> Result<(), Fail> {
+    for (size, room, wanted) in [
+        (100, 111, 111),
+        (100, 115, 112),
+        (100, 99, 112),
+        (511, 511, 511),
+        (512, 576, 576),
+        (512, 600, 512),
+        (1000, 1100, 1100),
+        (63, 64, 63),
+    ] {
+        same(&rt, reused(&rt, rt.alloc(), size, room)?, wanted);
+    }
     Ok(())
 }
 
