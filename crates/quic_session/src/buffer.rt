@@ -2,8 +2,8 @@
 
 ghost use Rattle.std.specs.Prelude.{◌≡◌, ◌++◌, ◌-◌, [], length, replicate, OnOk, OnErr};
 
-use crate::memory::room_for;
 use quic_values::OutOfMemory;
+use quic_wire::memory::room_for;
 use std::alloc::Global;
 
 /// The bytes of one payload: of one that was written, or is to come.

@@ -1,8 +1,10 @@
 //! Frames and payloads of the peer that come to a session.
 
-ghost use Rattle.std.specs.Prelude.{List, ◌≡◌, ◌≤◌, ◌∷◌, ◌&&◌, true, false, not, max, length, take, All, OnOk, IfOk, IfErr};
+ghost use Rattle.std.specs.Prelude.{List, ◌≡◌, ◌≤◌, ◌∷◌, ◌&&◌, true, false, not, max, length, take, All, OnOk, IfOk, IfErr, IsErrOf, Some};
 ghost use Rattle.quic_wire.specs.Codes.{STREAM_STATE_ERROR};
-ghost use Rattle.quic_wire.specs.Frames.{IsFrameWithin};
+ghost use Rattle.quic_wire.specs.declared.frame.Frame.{Frame as FrameValue};
+ghost use Rattle.quic_wire.specs.Frames.{AreFrames, IsFrameWithin};
+ghost use Rattle.quic_wire.specs.Reading.{ReadsAs};
 ghost use Rattle.quic_history.specs.World.{Made};
 ghost use Rattle.quic_history.specs.History.{Event, From};
 ghost use Rattle.quic_endpoint.specs.Receiving.{data_length, event_of, with_call_made, MakesCall, MayAnswer, with_answer_told, ReceivesAt, AccountsFrame};
@@ -80,9 +82,8 @@ impl Session {
         ensures receives { ReceivesPayload self.old payload.items first result self.new }
         ensures others { ReceivesOnly self.old self.new }
     {
-        let list = self.frames.take(self.alloc);
         let payload_len = payload.len();
-        match decode_owned_reusing(&mut self.pieces, payload, list) {
+        match self.frames_of(payload) {
             Ok(frames) => self.receive_frames(frames, payload_len, first),
             Err(DecodeError::Malformed) => Received {
                 next: first,
@@ -93,6 +94,18 @@ impl Session {
                 answer: Err(PayloadError::OutOfMemory),
             },
         }
+    }
+
+    // The frames of a payload. Their list and the data that are copied are in memory that was used before, if some is fit.
+    fn frames_of(&mut self, payload: Vec<u8>) -> Result<Vec<Frame>, DecodeError>
+        ensures found { IfOk result (λ frames. AreFrames payload.items frames.items) }
+        ensures only { (fs : List FrameValue) → AreFrames payload.items fs → ReadsAs (λ frames. frames.items) result (Some fs) }
+        ensures within { IfOk result (λ frames. All (IsFrameWithin (length payload.items)) frames.items) }
+        ensures malformed { IsErrOf result DecodeError.Malformed → (fs : List FrameValue) → ¬ AreFrames payload.items fs }
+        ensures same { self.new ≡ self.old }
+    {
+        let list = self.frames.take(self.alloc);
+        decode_owned_reusing(&mut self.pieces, payload, list)
     }
 
     /// A copy of the data of a frame, as for [`Session::receive_frame`]. It takes memory that was used before, where there is
