@@ -52,7 +52,7 @@ impl Session {
         ensures receives { ReceivesPayload self.old payload.now first result self.new }
         ensures others { ReceivesOnly self.old self.new }
     {
-        match self.pieces.copy_of(payload) {
+        match self.pieces.copy_of(payload, payload.len()) {
             Ok(bytes) => self.receive_owned(bytes, first),
             Err(_) => Received {
                 next: first,
@@ -114,7 +114,7 @@ impl Session {
         ensures copy { IfOk result (λ copy. copy ≡ bytes.now) }
         ensures same { self.new ≡ self.old }
     {
-        Ok(Bytes::from(self.pieces.copy_of(bytes)?))
+        Ok(Bytes::from(self.pieces.copy_of(bytes, bytes.len())?))
     }
 
     // Takes the frames of a payload, from a place on.

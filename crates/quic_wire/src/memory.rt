@@ -8,8 +8,8 @@ use std::marker::Model;
 
 /// Where the memory comes from into which bytes are copied, and where it goes.
 pub(crate) trait ByteMemory {
-    /// A copy of bytes.
-    fn copy_of(&mut self, bytes: &[u8]) -> Result<Vec<u8>, OutOfMemory>
+    /// A copy of bytes for which so many count as held.
+    fn copy_of(&mut self, bytes: &[u8], counted: usize) -> Result<Vec<u8>, OutOfMemory>
         ensures { IfOk result (λ copy. copy.items ≡ bytes.now) };
 
     /// Takes memory that is no longer needed, with any bytes.
@@ -18,7 +18,7 @@ pub(crate) trait ByteMemory {
 
 // Each copy has memory of its own.
 impl ByteMemory for Global {
-    fn copy_of(&mut self, bytes: &[u8]) -> Result<Vec<u8>, OutOfMemory> {
+    fn copy_of(&mut self, bytes: &[u8], _: usize) -> Result<Vec<u8>, OutOfMemory> {
         Ok(Vec::from_slice(*self, bytes)?)
     }
 
@@ -82,12 +82,13 @@ impl PieceMemory {
         self.most = most;
     }
 
-    /// A copy of bytes, in memory that was used before, if some is fit for them.
-    pub fn copy_of(&mut self, bytes: &[u8]) -> Result<Vec<u8>, OutOfMemory>
+    /// A copy of bytes, in memory that was used before, if some is fit for them: they leave at most an eighth of it free, or it
+    /// has no more room than counts as held for them.
+    pub fn copy_of(&mut self, bytes: &[u8], counted: usize) -> Result<Vec<u8>, OutOfMemory>
         ensures copy { IfOk result (λ copy. copy.items ≡ bytes.now) }
         ensures same { self.new ≡ self.old }
     {
-        let mut piece = match self.take(bytes.len()) {
+        let mut piece = match self.take(bytes.len(), counted) {
             Some(piece) => piece,
             None => Vec::with_capacity(*self.long.allocator(), room_for(bytes.len()))?,
         };
@@ -97,15 +98,15 @@ impl PieceMemory {
     }
 
     // Takes out a piece that is fit for so many bytes.
-    fn take(&mut self, size: usize) -> Option<Vec<u8>>
+    fn take(&mut self, size: usize, counted: usize) -> Option<Vec<u8>>
         ensures same { self.new ≡ self.old }
     {
-        if !is_kept(size) {
+        if size > MOST_ROOM || counted < LEAST_ROOM {
             None
         } else if size < LEAST_LONG {
-            take_fit(&mut self.short, size)
+            take_fit(&mut self.short, size, counted)
         } else {
-            take_fit(&mut self.long, size)
+            take_fit(&mut self.long, size, counted)
         }
     }
 
@@ -137,8 +138,8 @@ impl PieceMemory {
 }
 
 impl ByteMemory for PieceMemory {
-    fn copy_of(&mut self, bytes: &[u8]) -> Result<Vec<u8>, OutOfMemory> {
-        PieceMemory::copy_of(self, bytes)
+    fn copy_of(&mut self, bytes: &[u8], counted: usize) -> Result<Vec<u8>, OutOfMemory> {
+        PieceMemory::copy_of(self, bytes, counted)
     }
 
     fn put(&mut self, piece: Vec<u8>) {
@@ -148,17 +149,17 @@ impl ByteMemory for PieceMemory {
 
 // Takes out the piece that was put in last, or else the first one, if it is fit for so many bytes. A first one that is not fit
 // goes, so that in time the pieces are those that are fit for what comes.
-fn take_fit(list: &mut Vec<Vec<u8>>, size: usize) -> Option<Vec<u8>>
+fn take_fit(list: &mut Vec<Vec<u8>>, size: usize, counted: usize) -> Option<Vec<u8>>
     ensures fewer { vec_len list.new ≤ vec_len list.old }
     ensures small { (room : ℕ) → All (λ piece. vec_capacity piece ≤ room) list.old.items → All (λ piece. vec_capacity piece ≤ room) list.new.items }
 {
     match list.last() {
         None => return None,
-        Some(last) if is_fit(last.capacity(), size) => return list.pop(),
+        Some(last) if is_fit_where(last.capacity(), size, counted) => return list.pop(),
         Some(_) => {}
     }
     let first = list.swap_remove(0);
-    if is_fit(first.capacity(), size) {
+    if is_fit_where(first.capacity(), size, counted) {
         return Some(first);
     }
     None
@@ -194,6 +195,11 @@ pub fn room_for(size: usize) -> usize
     } else {
         (size + 63) / 64 * 64
     }
+}
+
+// Whether memory with so much room is fit for so many bytes, for which so many count as held.
+fn is_fit_where(room: usize, size: usize, counted: usize) -> bool {
+    size <= room && (room <= counted || is_fit(room, size))
 }
 
 /// Whether memory with so much room is fit for so many bytes: they have room in it, and leave at most an eighth of it free.

@@ -92,13 +92,14 @@ fn offset_at(with_offset: bool, bytes: &[u8]) -> Result<(u64, &[u8]), DecodeErro
 #[tactic(auto, unfolding(crate::specs::Reading::content_at))]
 fn content_at<'a, M: ByteMemory>(
     memory: &mut M,
+    payload_len: usize,
     with_length: bool,
     bytes: &'a [u8],
 ) -> Result<(Bytes, &'a [u8]), DecodeError>
     ensures { ReadsAs (λ x. (x.0, x.1.now)) result (content_at with_length bytes.now) }
 {
     if !with_length {
-        return Ok((Bytes::from(memory.copy_of(bytes)?), &[]));
+        return Ok((Bytes::from(memory.copy_of(bytes, payload_len)?), &[]));
     }
     let (length, rest) = number_at(bytes)?;
     let length = length as usize;
@@ -106,7 +107,7 @@ fn content_at<'a, M: ByteMemory>(
         return Err(DecodeError::Malformed);
     }
     let (content, rest) = rest.split_at(length);
-    Ok((Bytes::from(memory.copy_of(content)?), rest))
+    Ok((Bytes::from(memory.copy_of(content, payload_len)?), rest))
 }
 
 #[tactic(auto, unfolding(crate::specs::Reading::reset_at))]
@@ -138,6 +139,7 @@ fn stop_at(bytes: &[u8]) -> Result<(Frame, &[u8]), DecodeError>
 #[tactic(auto, unfolding(crate::specs::Reading::stream_at))]
 fn stream_at<'a, M: ByteMemory>(
     memory: &mut M,
+    payload_len: usize,
     kind: u8,
     bytes: &'a [u8],
 ) -> Result<(Frame, &'a [u8]), DecodeError>
@@ -145,7 +147,7 @@ fn stream_at<'a, M: ByteMemory>(
 {
     let (id, rest) = number_at(bytes)?;
     let (offset, rest) = offset_at(kind & 0x04 != 0, rest)?;
-    let (bytes, rest) = content_at(memory, kind & 0x02 != 0, rest)?;
+    let (bytes, rest) = content_at(memory, payload_len, kind & 0x02 != 0, rest)?;
     let frame = Stream {
         id: StreamId::from(VarInt::new(id)),
         offset,
@@ -200,18 +202,20 @@ fn stream_data_blocked_at(bytes: &[u8]) -> Result<(Frame, &[u8]), DecodeError>
 #[tactic(auto, unfolding(crate::specs::Reading::datagram_at))]
 fn datagram_at<'a, M: ByteMemory>(
     memory: &mut M,
+    payload_len: usize,
     kind: u8,
     bytes: &'a [u8],
 ) -> Result<(Frame, &'a [u8]), DecodeError>
     ensures { ReadsAs (λ x. (x.0, x.1.now)) result (datagram_at kind bytes.now) }
 {
-    let (bytes, rest) = content_at(memory, kind & 0x01 != 0, bytes)?;
+    let (bytes, rest) = content_at(memory, payload_len, kind & 0x01 != 0, bytes)?;
     Ok((Frame::Datagram(Datagram { bytes }), rest))
 }
 
 #[tactic(auto, unfolding(crate::specs::Reading::frame_at))]
 fn frame_at<'a, M: ByteMemory>(
     memory: &mut M,
+    payload_len: usize,
     bytes: &'a [u8],
 ) -> Result<(Frame, &'a [u8]), DecodeError>
     ensures { ReadsAs (λ x. (x.0, x.1.now)) result (frame_at bytes.now) }
@@ -222,14 +226,14 @@ fn frame_at<'a, M: ByteMemory>(
     match *kind {
         0x04 => reset_at(bytes),
         0x05 => stop_at(bytes),
-        0x08..=0x0f => stream_at(memory, *kind, bytes),
+        0x08..=0x0f => stream_at(memory, payload_len, *kind, bytes),
         0x10 => max_data_at(bytes),
         0x11 => max_stream_data_at(bytes),
         0x12 => max_streams_at(Dir::Bi, bytes),
         0x13 => max_streams_at(Dir::Uni, bytes),
         0x14 => data_blocked_at(bytes),
         0x15 => stream_data_blocked_at(bytes),
-        0x30..=0x31 => datagram_at(memory, *kind, bytes),
+        0x30..=0x31 => datagram_at(memory, payload_len, *kind, bytes),
         _ => Err(DecodeError::Malformed),
     }
 }
@@ -340,7 +344,7 @@ fn decode_front<M: ByteMemory>(
                 return Ok((frames, Some(last.behind(payload.len() - rest.len()))));
             }
         }
-        let (frame, after) = frame_at(memory, rest)?;
+        let (frame, after) = frame_at(memory, payload.len(), rest)?;
         frames.push(frame)?;
         rest = after;
     }
