@@ -111,6 +111,7 @@ impl PieceMemory {
     }
 
     /// Puts a piece in, if there is room for it and it is one to be kept. Another goes.
+    #[inline(always)]
     pub fn put(&mut self, piece: Vec<u8>)
         ensures same { self.new ≡ self.old }
     {
