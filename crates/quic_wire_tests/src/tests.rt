@@ -431,18 +431,24 @@ fn only_a_payload_with_little_room_is_kept(rt: HostRuntime) -> Result<(), Fail> 
     Ok(())
 }
 
-// How much room the memory has in which the data of a frame stand that ends no payload, where there was a piece with so much
-// room. The payload's own memory is a piece then.
-fn reused(rt: &impl Abort, alloc: Global, size: usize, room: usize) -> Result<usize, Fail> {
+// How much room the memory has in which the data of a frame stand, with so many frames behind it, where there was a piece with
+// so much room. The payload's own memory is a piece then.
+fn reused(
+    rt: &impl Abort,
+    alloc: Global,
+    size: usize,
+    behind: usize,
+    room: usize,
+) -> Result<usize, Fail> {
     let mut memory = PieceMemory::new(alloc, 2);
     memory.put(Vec::with_capacity(alloc, room)?);
     let content = seeded(alloc, size)?;
     let mut payload = written_data(rt, alloc, &data(alloc, 5, &content)?, true)?;
-    payload.extend_from_slice(&[0x10, 33])?;
+    payload.append(&mut limits(alloc, behind)?)?;
     payload.reserve_exact(2048usize.saturating_sub(payload.len()))?;
     let mut frames = decoded_reusing(&mut memory, payload, Vec::new(alloc))?;
     same(rt, memory.spare().capacity(), 2048);
-    same(rt, frames.len(), 2);
+    same(rt, frames.len(), behind.saturating_add(1));
     frames.truncate(1);
     match frames.pop() {
         Some(Frame::Stream(frame)) => {
@@ -455,17 +461,26 @@ fn reused(rt: &impl Abort, alloc: Global, size: usize, room: usize) -> Result<us
 
 #[test]
 fn data_are_put_into_memory_that_is_fit(rt: HostRuntime) -> Result<(), Fail> {
-    for (size, room, wanted) in [
-        (100, 111, 111),
-        (100, 115, 112),
-        (100, 99, 112),
-        (511, 511, 511),
-        (512, 576, 576),
-        (512, 600, 512),
-        (1000, 1100, 1100),
-        (63, 64, 63),
+    for (size, behind, room, wanted) in [
+        // At most an eighth is free.
+        (100, 1, 114, 114),
+        (100, 1, 115, 112),
+        (100, 1, 99, 112),
+        (511, 1, 511, 511),
+        (512, 1, 585, 585),
+        (512, 1, 586, 512),
+        (1000, 1, 1100, 1100),
+        // The payload has 105 bytes and two for each frame behind.
+        (100, 4, 115, 112),
+        (100, 5, 115, 115),
+        (1, 55, 117, 1),
+        (1, 56, 117, 117),
+        // There is room for less than 64 bytes, or for none.
+        (63, 1, 63, 63),
+        (63, 1, 64, 64),
+        (50, 1, 56, 50),
     ] {
-        same(&rt, reused(&rt, rt.alloc(), size, room)?, wanted);
+        same(&rt, reused(&rt, rt.alloc(), size, behind, room)?, wanted);
     }
     Ok(())
 }
