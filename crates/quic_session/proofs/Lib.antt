@@ -1,4 +1,5 @@
 pub mod Copied
+pub mod Counted
 pub mod Directed
 pub mod Emitted
 pub mod Lent

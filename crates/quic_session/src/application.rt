@@ -13,7 +13,7 @@ ghost use Rattle.quic_outgoing.specs.Calls.{told_of_half};
 ghost use Rattle.quic_sending.specs.Source.{slice_lists};
 ghost use Rattle.quic_streams.specs.Connection.{is_shut};
 ghost use Rattle.quic_streams.specs.Writing.{IsWrittenAs};
-ghost use Rattle.quic_endpoint.specs.Ends.{with_world, FinishesAt, ResetsAt, SetsPriorityAt, StopsReading, TellsResetAt, ReadsAt, RefusesRead, is_handled, is_opened};
+ghost use Rattle.quic_endpoint.specs.Ends.{with_world, FinishesAt, ResetsAt, SetsPriorityAt, StopsReading, TellsResetAt, ReadsAt, RefusesRead, is_handled, not_for_memory};
 ghost use Rattle.quic_session.specs.Sessions.{end_of, beside_of};
 ghost use Rattle.quic_session.specs.Reading.{ReadsInto, CopiesChunk, AreFew};
 
@@ -286,9 +286,14 @@ impl Session {
         ensures beside { beside_of self.new ≡ beside_of self.old }
         ensures lent { self.new.lent ≡ self.old.lent }
     {
-        let answer = self.read_stream(id, ordered, max_length, times, list);
-        self.tell_counts_if(is_opened(&answer));
-        answer
+        match self.read_stream(id, ordered, max_length, times, list) {
+            // The read queued MAX_STREAMS, if it was due.
+            Ok(some) => Ok(some),
+            Err(error) => {
+                self.tell_counts_if(not_for_memory(error));
+                Err(error)
+            }
+        }
     }
 
     // The same, with what it queues itself.
@@ -380,9 +385,9 @@ fn is_handled<T>(answer: &Result<T, HandleError>) -> bool
     !matches!(answer, Err(HandleError::OutOfMemory))
 }
 
-// Whether a reader was not refused for lack of memory.
-fn is_opened(answer: &Result<ReadSome, ReadableError>) -> bool
-    ensures { result ≡ is_opened answer.now }
+// Whether a reader was refused, and not for lack of memory.
+fn not_for_memory(error: ReadableError) -> bool
+    ensures { result ≡ not_for_memory error }
 {
-    !matches!(answer, Err(ReadableError::OutOfMemory))
+    !matches!(error, ReadableError::OutOfMemory)
 }

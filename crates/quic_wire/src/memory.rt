@@ -84,6 +84,7 @@ impl PieceMemory {
 
     /// A copy of bytes, in memory that was used before, if some is fit for them: they leave at most an eighth of it free, or it
     /// has no more room than counts as held for them.
+    #[inline(always)]
     pub fn copy_of(&mut self, bytes: &[u8], counted: usize) -> Result<Vec<u8>, OutOfMemory>
         ensures copy { IfOk result (λ copy. copy.items ≡ bytes.now) }
         ensures same { self.new ≡ self.old }

@@ -89,6 +89,7 @@ fn offset_at(with_offset: bool, bytes: &[u8]) -> Result<(u64, &[u8]), DecodeErro
     Ok((offset, rest))
 }
 
+#[inline(always)]
 #[tactic(auto, unfolding(crate::specs::Reading::content_at))]
 fn content_at<'a, M: ByteMemory>(
     memory: &mut M,
