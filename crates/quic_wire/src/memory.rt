@@ -140,6 +140,7 @@ impl PieceMemory {
 }
 
 impl ByteMemory for PieceMemory {
+    #[inline(always)]
     fn copy_of(&mut self, bytes: &[u8], counted: usize) -> Result<Vec<u8>, OutOfMemory> {
         PieceMemory::copy_of(self, bytes, counted)
     }
