@@ -43,7 +43,7 @@ $(LIB)/libquic_streams.a: $(ARCHIVE) $(PARTS)
 $(LIB)/libquic_streams.so: $(LIB)/libquic_streams.a packaging/exports.map
 	$(CC) -shared -o $@ -Wl,-soname,libquic_streams.so.0 -Wl,--version-script,packaging/exports.map \
 	    -Wl,--whole-archive $< -Wl,--no-whole-archive
-	ln -sf libquic_streams.so $(LIB)/libquic_streams.so.0
+	cp $@ $(LIB)/libquic_streams.so.0
 
 $(LIB)/pkgconfig/quic_streams.pc: packaging/quic_streams.pc.in Makefile
 	mkdir -p $(dir $@)
