@@ -17,15 +17,24 @@ pub(crate) fn transport_error(error: &sys::Error) -> TransportError {
 }
 
 // The result of a call that takes one frame.
+#[inline]
 fn taken(answer: i32, error: &sys::Error) -> Result<(), ReceiveError> {
     match answer {
         sys::OK => Ok(()),
-        sys::PROTOCOL | sys::MALFORMED => Err(ReceiveError::Transport(transport_error(error))),
-        sys::ARGUMENT => Err(ReceiveError::Transport(TransportError {
+        answer => Err(refused(answer, error)),
+    }
+}
+
+// Why a frame was not taken.
+#[cold]
+fn refused(answer: i32, error: &sys::Error) -> ReceiveError {
+    match answer {
+        sys::PROTOCOL | sys::MALFORMED => ReceiveError::Transport(transport_error(error)),
+        sys::ARGUMENT => ReceiveError::Transport(TransportError {
             code: FRAME_ENCODING_ERROR,
             reason: "a number is above its bound".to_owned(),
-        })),
-        _ => Err(ReceiveError::OutOfMemory(0)),
+        }),
+        _ => ReceiveError::OutOfMemory(0),
     }
 }
 
@@ -39,6 +48,7 @@ fn taken(answer: i32, error: &sys::Error) -> Result<(), ReceiveError> {
 impl StreamsState {
     /// STREAM (section 19.8). `payload_len` is the length of the memory in which the data came. It is counted so that many
     /// small frames cannot hold much memory; the length of `data` counts, if `payload_len` is less.
+    #[inline]
     pub fn on_stream(
         &mut self,
         id: StreamId,
@@ -87,6 +97,7 @@ impl StreamsState {
     }
 
     /// MAX_DATA (section 19.9).
+    #[inline]
     pub fn on_max_data(&mut self, limit: u64) -> Result<(), ReceiveError> {
         let mut error = sys::Error::none();
         let answer = unsafe { sys::qs_on_max_data(&mut self.conn, limit, &mut error) };
@@ -94,6 +105,7 @@ impl StreamsState {
     }
 
     /// MAX_STREAM_DATA (section 19.10).
+    #[inline]
     pub fn on_max_stream_data(&mut self, id: StreamId, limit: u64) -> Result<(), ReceiveError> {
         let mut error = sys::Error::none();
         let answer = unsafe { sys::qs_on_max_stream_data(&mut self.conn, id.0, limit, &mut error) };

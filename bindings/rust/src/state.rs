@@ -117,16 +117,19 @@ impl StreamsState {
     }
 
     /// The send side of a stream.
+    #[inline]
     pub fn send_stream(&mut self, id: StreamId) -> SendStream<'_> {
         SendStream { state: self, id }
     }
 
     /// The receive side of a stream.
+    #[inline]
     pub fn recv_stream(&mut self, id: StreamId) -> RecvStream<'_> {
         RecvStream { state: self, id }
     }
 
     /// Takes the next event for the application, if there is one.
+    #[inline]
     pub fn poll(&mut self) -> Option<Event> {
         let mut event = sys::Event::default();
         match unsafe { sys::qs_poll(&mut self.conn, &mut event) } {
@@ -136,11 +139,13 @@ impl StreamsState {
     }
 
     /// Takes a whole payload of the peer.
+    #[inline]
     pub fn receive(&mut self, payload: &[u8]) -> Result<(), ReceiveError> {
         self.receive_from(payload, 0)
     }
 
     /// The same from frame `first` on, for a payload of which an earlier call ran out of memory at that frame.
+    #[inline]
     pub fn receive_from(&mut self, payload: &[u8], first: usize) -> Result<(), ReceiveError> {
         let (mut next, mut error) = (first, sys::Error::none());
         let (data, len) = (payload.as_ptr(), payload.len());
@@ -152,6 +157,7 @@ impl StreamsState {
     }
 
     /// Writes what is due into `out`. `None` where nothing that is due fits.
+    #[inline]
     pub fn emit(&mut self, out: &mut [u8], what: Emit) -> Result<Option<Payload>, OutOfMemory> {
         let mut payload = sys::Payload::default();
         if what.parts() == 0 {
@@ -194,6 +200,7 @@ impl StreamsState {
     /// # Ok(())
     /// # }
     /// ```
+    #[inline]
     pub fn emit_lent(
         &mut self,
         max_size: usize,
@@ -240,6 +247,7 @@ impl StreamsState {
     /// # Ok(())
     /// # }
     /// ```
+    #[inline]
     pub fn due(&mut self) -> Due {
         let mut raw = sys::Due::default();
         unsafe { sys::qs_get_due(&mut self.conn, &mut raw) };
@@ -251,11 +259,13 @@ impl StreamsState {
     }
 
     /// Reports that the packet of a payload was acknowledged.
+    #[inline]
     pub fn acked(&mut self, token: Token) -> Result<(), SettleError> {
         settled(unsafe { sys::qs_acked(&mut self.conn, token.0) })
     }
 
     /// Reports that the packet of a payload is taken to be lost.
+    #[inline]
     pub fn lost(&mut self, token: Token) -> Result<(), SettleError> {
         settled(unsafe { sys::qs_lost(&mut self.conn, token.0) })
     }
@@ -364,6 +374,7 @@ impl StreamsState {
 }
 
 // The result of a report.
+#[inline]
 fn settled(answer: i32) -> Result<(), SettleError> {
     match answer {
         sys::OK => Ok(()),

@@ -29,6 +29,7 @@ fn read_error(answer: i32, code: u64) -> ReadError {
 }
 
 // What follows the bytes of a read of several frames.
+#[inline]
 fn next_of(answer: i32, code: u64) -> Result<Next, ReadError> {
     match answer {
         sys::OK => Ok(Next::More),
@@ -48,6 +49,7 @@ pub struct SendStream<'a> {
 impl SendStream<'_> {
     /// Writes the first bytes of `data`, and returns how many: all, or as many as the peer's limits and the send window
     /// leave, where that is less.
+    #[inline]
     pub fn write(&mut self, data: &[u8]) -> Result<usize, WriteError> {
         let (mut written, mut code) = (0, 0);
         let answer = unsafe {
@@ -242,6 +244,7 @@ impl<'a> RecvStream<'a> {
     /// # Panics
     ///
     /// Where `out` is empty.
+    #[inline]
     pub fn read_into_uninit(
         &mut self,
         out: &mut [MaybeUninit<u8>],
@@ -328,6 +331,7 @@ impl<'a> RecvStream<'a> {
     /// # Panics
     ///
     /// Where `out` is empty.
+    #[inline]
     pub fn read_many_uninit(&mut self, out: &mut [MaybeUninit<u8>]) -> Result<ReadMany, ReadError> {
         assert!(!out.is_empty(), "a read needs room");
         let (mut count, mut offset, mut code) = (0, 0, 0);

@@ -107,6 +107,7 @@ pub struct Error {
 }
 
 impl Error {
+    #[inline]
     pub fn none() -> Self {
         Error {
             code: 0,

@@ -180,7 +180,7 @@ pub(crate) fn take_half(
 }
 
 // Appends the next frame of an entry's half. If refused, nothing changes.
-#[inline]
+#[inline(always)]
 fn append_of_entry(
     alloc: Global,
     limit: VarInt,
@@ -201,6 +201,7 @@ fn append_of_entry(
 }
 
 // Appends the next frame of a half to a payload. If refused, nothing changes.
+#[inline(always)]
 fn append_frame(
     half: &mut Send,
     id: StreamId,
@@ -258,6 +259,7 @@ fn left_pending(pending: bool, fin: bool) -> bool
 }
 
 // Appends a STREAM frame up to its data, and makes room for these. If refused, nothing is appended.
+#[inline(always)]
 fn append_head(meta: &StreamMeta, with_length: bool, buf: &mut Vec<u8>) -> Result<(), OutOfMemory>
     requires ordered { meta.now.offsets.start ≤ meta.now.offsets.end }
     requires small { meta.now.offsets.end < 2 ^ 62 }

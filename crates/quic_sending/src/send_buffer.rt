@@ -239,6 +239,7 @@ impl SendBuffer {
 
     /// Appends the written bytes of a range, none of them in the acknowledged prefix. If refused,
     /// nothing is appended.
+    #[inline(always)]
     pub fn append_range(&self, range: Range<u64>, out: &mut Vec<u8>) -> Result<(), OutOfMemory>
         requires kept { self.now.prefix ≤ range.start }
         requires ordered { range.start ≤ range.end }

@@ -31,12 +31,12 @@ pub struct Parts {
 /// What was written.
 #[derive(Clone, Copy, Debug, PartialEq, Eq)]
 pub struct Emitted {
-    /// How many bytes.
-    pub len: usize,
     /// What stands for the payload until it is settled.
     pub token: u64,
     /// Whether nothing may stand behind it in its packet: its last frame may be a STREAM frame without a length.
     pub ends: bool,
+    /// How many bytes.
+    pub len: usize,
 }
 
 // A payload that is being written.

@@ -110,6 +110,7 @@ impl Session {
 
     /// A copy of the data of a frame, as for [`Session::receive_frame`]. It takes memory that was used before, where there is
     /// some.
+    #[inline(always)]
     pub fn copy_of(&mut self, bytes: &[u8]) -> Result<Bytes, OutOfMemory>
         ensures copy { IfOk result (λ copy. copy ≡ bytes.now) }
         ensures same { self.new ≡ self.old }

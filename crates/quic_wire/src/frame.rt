@@ -14,9 +14,9 @@ pub struct Stream {
     pub id: StreamId,
     /// Where the data begin in the stream.
     pub offset: u64,
+    pub bytes: Bytes,
     /// Whether the stream ends where the data end.
     pub fin: bool,
-    pub bytes: Bytes,
 }
 
 impl Stream {

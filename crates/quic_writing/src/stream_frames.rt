@@ -118,8 +118,22 @@ fn take_common_turn(
     };
     let next = next_of(fair, entry.priority, frame.has_more);
     queue.end_turn(*entry, next);
-    sent.push_reserved(frame.meta);
+    sent.push_reserved(by_fields(frame.meta));
     Ok(true)
+}
+
+// The same, field by field. A move as a whole copies what lies unused between the fields too, and such a copy waits until the
+// data are stored.
+#[inline(always)]
+fn by_fields(meta: StreamMeta) -> StreamMeta
+    ensures { result ≡ meta }
+{
+    let StreamMeta { id, offsets, fin } = meta;
+    StreamMeta {
+        id,
+        offsets: offsets.start..offsets.end,
+        fin,
+    }
 }
 
 // Serves the first stream in the queue, at whatever priority it has now, or lets it go.
