@@ -33,26 +33,28 @@ pub(super) fn count_control(payload: &[u8], counters: &mut FrameStats) {
     }
 }
 
-/// How many STREAM frames a payload has (RFC 9000 section 19.8). One without a length reaches to its end.
-pub(super) fn count_data(mut payload: &[u8]) -> u64 {
-    let mut count = 0;
+/// How many STREAM frames a payload has, and how many bytes of data (RFC 9000 section 19.8).
+pub(super) fn count_data(mut payload: &[u8]) -> (u64, u64) {
+    let (mut frames, mut bytes) = (0, 0);
     while let Some((ty, rest)) = payload.split_first() {
         tracing::trace!(ty, "sent STREAM");
-        count += 1;
-        payload = match ty & 2 {
-            0 => &[],
-            _ => behind_frame(*ty, rest).unwrap_or(&[]),
-        };
+        let (data, behind) = data_of(*ty, rest).unwrap_or((rest, &[]));
+        frames += 1;
+        bytes += data.len() as u64;
+        payload = behind;
     }
-    count
+    (frames, bytes)
 }
 
-/// What follows a STREAM frame with a length, whose type was read.
-fn behind_frame(ty: u8, mut payload: &[u8]) -> Option<&[u8]> {
+/// The data of a STREAM frame whose type was read, and what follows them. Without a length they reach to the end.
+fn data_of(ty: u8, mut payload: &[u8]) -> Option<(&[u8], &[u8])> {
     payload.get_var().ok()?;
     if ty & 4 != 0 {
         payload.get_var().ok()?;
     }
-    let length = payload.get_var().ok()?;
-    payload.get(usize::try_from(length).ok()?..)
+    let length = match ty & 2 {
+        0 => payload.len(),
+        _ => usize::try_from(payload.get_var().ok()?).ok()?,
+    };
+    (length <= payload.len()).then(|| payload.split_at(length))
 }

@@ -34,6 +34,8 @@ pub struct StreamsState {
     end: RefCell<layer::StreamsState>,
     /// What waits to be sent, if it was asked for since the last change.
     due: Cell<Option<layer::Due>>,
+    /// At least so many bytes were written and not sent yet, on streams that were not reset.
+    unsent: u64,
     /// How many streams were opened here, by direction.
     opened: [u64; 2],
     /// How many streams of the peer the library gave, by direction.
@@ -124,6 +126,7 @@ impl StreamsState {
             side,
             end: RefCell::new(end),
             due: Cell::new(None),
+            unsent: 0,
             opened: [0; 2],
             given: [0; 2],
             ahead: Default::default(),
@@ -153,6 +156,7 @@ impl StreamsState {
 
     pub fn zero_rtt_rejected(&mut self) {
         self.end().zero_rtt_rejected();
+        self.unsent = 0;
         self.opened = [0; 2];
         let side = self.side;
         self.readable.retain(|id, _| id.initiator() != side);
@@ -266,9 +270,15 @@ impl StreamsState {
         if !self.can_send_stream_data() {
             return 0;
         }
-        let from = buf.len();
+        let (from, due) = (buf.len(), self.due.get());
         sent.data = self.emit(buf, max_size, [false, true]);
-        payloads::count_data(&buf[from..])
+        let (frames, bytes) = payloads::count_data(&buf[from..]);
+        self.unsent = self.unsent.saturating_sub(bytes);
+        if self.unsent > 0 {
+            // more data wait, and as for control frames nothing changed: the library need not be asked
+            self.due.set(due);
+        }
+        frames
     }
 
     /// Has control frames or data written behind what a packet has.
@@ -373,7 +383,10 @@ impl StreamsState {
 
     pub(super) fn write(&mut self, id: StreamId, data: &[u8]) -> Result<usize, WriteError> {
         match self.sending(id).write(data) {
-            Ok(taken) => Ok(taken),
+            Ok(taken) => {
+                self.unsent += taken as u64;
+                Ok(taken)
+            }
             Err(layer::WriteError::Blocked) => Err(WriteError::Blocked),
             Err(layer::WriteError::Stopped(code)) => Err(WriteError::Stopped(code_of(code))),
             Err(layer::WriteError::ClosedStream) => Err(WriteError::UnknownStream),
@@ -391,6 +404,7 @@ impl StreamsState {
     }
 
     pub(super) fn reset(&mut self, id: StreamId, code: VarInt) -> Result<(), UnknownStream> {
+        self.unsent = 0;
         answered(self.sending(id).reset(code.into()))
     }
 
