@@ -7,7 +7,8 @@ import subprocess
 import sys
 import unittest
 
-from test_programs import ROOT, program, run
+sys.path.insert(0, os.path.dirname(os.path.abspath(__file__)))
+from test_programs import ROOT, program, run  # noqa: E402
 
 THIS = os.path.relpath(os.path.abspath(__file__), ROOT)
 SUFFIXES = "rt|antt|py|md|svg|c|h|edit|txt|map"
@@ -286,14 +287,15 @@ class Docs(unittest.TestCase):
     def test_the_readme_is_short(self):
         self.assertLessEqual(len(read("README.md").splitlines()), 120)
 
-    @unittest.skipUnless(os.access(program("streampair"), os.X_OK), "streampair is not built")
     def test_the_session_of_the_readme(self):
-        """The lines that the README has typed, left column first, and what is printed for them."""
-        rows = re.findall(r"^\| `([^`]+)` \| `([^`]+)` \| `([^`]+)` \| `([^`]+)` \|$", read("README.md"), flags=re.M)
-        self.assertEqual(len(rows), 5)
-        lines = [row[:2] for row in rows] + [row[2:] for row in rows]
-        typed, printed = ("".join(f"{line[at]}\n" for line in lines) for at in (0, 1))
-        self.assertEqual(run("streampair", typed), (printed, 0))
+        """Its lines are those of the file that its command names, and its replies those that the program prints."""
+        page = read("README.md")
+        name = re.search(r"^    session=\.\./\.\./(\S+)$", page, flags=re.M).group(1)
+        block = re.search(r"^    config a .*\n(?:    .*\n)+", page, flags=re.M).group()
+        shown = [(line[4:36].rstrip(), line[36:]) for line in block.splitlines()]
+        self.assertEqual("".join(f"{line}\n" for line, _ in shown), read(name))
+        if os.access(program("streampair"), os.X_OK):
+            self.assertEqual(run("streampair", read(name)), ("".join(f"{reply}\n" for _, reply in shown), 0))
 
     @unittest.skipUnless(os.access(program("streampair"), os.X_OK), "streampair is not built")
     def test_the_sessions_of_the_page(self):
