@@ -73,7 +73,7 @@ unmade w v id most window ordered read same there reading = record {
   half = there;
   mode = reader_mode (new_half window) ordered read (ap (λ o. is_reading progress.Readable o ordered read) (sym there) ∙ reading);
   running = refl;
-  reads = (refl, none_fresh, record { running = refl; rests = rests-same (new_half window).buffer; is = refl });
+  reads = (refl, none_fresh, record { running = refl; same = refl; rests = rests-same (new_half window).buffer; is = refl });
   is = same ∙ sym (with_receive-back w id (Some (new_half window)) there);
 }
 

@@ -8,9 +8,10 @@ use Rattle.quic_receiving.specs.declared.errors.ReadError.TheVariants as read_er
 use Rattle.quic_receiving.specs.Half.{Half}
 use Rattle.quic_receiving.specs.Calls.{Rests, Waits, Reads}
 
-pub waits : (old : Half) (buffer : Reassembly) → old.reset ≡ None → Rests old.buffer buffer → Waits old (record old { buffer = buffer })
-waits old buffer running rests = record {
+pub waits : (old : Half) (buffer : Reassembly) → old.reset ≡ None → buffer ≡ old.buffer → Rests old.buffer buffer → Waits old (record old { buffer = buffer })
+waits old buffer running same rests = record {
   running = running;
+  same = same;
   rests = rests;
   is = refl;
 }

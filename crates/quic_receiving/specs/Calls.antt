@@ -7,6 +7,8 @@ use Rattle.quic_assembler.specs.declared.EnsureError.{EnsureError}
 use Rattle.quic_assembler.specs.declared.EnsureError.TheVariants as ensure_error
 use Rattle.quic_assembler.specs.declared.InsertError.{InsertError}
 use Rattle.quic_assembler.specs.declared.InsertError.TheVariants as insert_error
+use Rattle.quic_ordered.specs.Assembly.{IsJoined}
+use Rattle.quic_ordered.specs.Rows.{GivesFirst}
 use Rattle.quic_sending.specs.declared.ClosedStream.{ClosedStream}
 use Rattle.quic_wire.specs.declared.TransportError.{TransportError}
 use Rattle.quic_wire.specs.declared.ReceiveError.{ReceiveError}
@@ -104,8 +106,10 @@ Resets old code final received max_data (Ok false) new =
 Resets old code final received max_data (Err error) new =
     (reset_verdict old final received max_data ≡ Refused error.code) × (new ≡ old)
 
--- a chunk was given: it was held, is held no more, and is done
+-- a chunk was returned: it was buffered, is no longer buffered, and counts as read. It is the start of the first segment,
+-- and the other segments are as they were
 pub record Given (old : Reassembly) (most : ℕ) (chunk : Chunk) (new : Reassembly) : Type 0 where
+  pub first : GivesFirst most old.runs chunk.offset chunk.bytes new.runs
   pub gives : Gives (Holds old) (Holds new) chunk.offset chunk.bytes
   pub here : IsHeld (Holds old) chunk.offset
   pub limit : length chunk.bytes ≤ most
@@ -133,9 +137,10 @@ pub record HasNone (a : Reassembly) : Type 0 where
   pub next : a.ordered ≡ true → IsHeld (Holds a) a.bytes_read → ⊥
   pub any : a.ordered ≡ false → HoldsNothing (Holds a)
 
--- no chunk was given
+-- no chunk was returned: the segments are as they were
 pub record Waits (old new : Half) : Type 0 where
   pub running : old.reset ≡ None
+  pub same : new.buffer ≡ old.buffer
   pub rests : Rests old.buffer new.buffer
   pub is : new ≡ record old { buffer = new.buffer }
 
@@ -149,18 +154,21 @@ Reads old most (Err (read_error.Reset code)) new = (old.reset ≡ Some code) × 
 Reads old most (Err read_error.OutOfMemory) new =
     HoldsMore (Holds old.buffer) old.buffer.ordered old.buffer.bytes_read most × Waits old new
 
--- unordered mode holds from here on
+-- reads are unordered from here on: segments that touch were joined
 pub record Leaves (old new : Reassembly) : Type 0 where
   pub was_ordered : old.ordered ≡ true
+  pub joined : IsJoined old.runs new.runs
   pub leaves : LeavesOrder old new
   pub pieces : piece_count new ≤ piece_count old
 
--- what came of asking for a mode
+-- what came of asking for a mode. Only when memory runs out may the same bytes be buffered in other segments, and no more of
+-- them: where later chunks end is then left open
 abbrev pub Orders : Half → Bool → Result (Unit {0}) EnsureError → Half → Type 0
 Orders old ordered (Ok u) new =
     ((ordered ≡ old.buffer.ordered) × (new ≡ old))
     ⊎ ((ordered ≡ false) × Leaves old.buffer new.buffer × (new ≡ record old { buffer = new.buffer }))
 Orders old ordered (Err ensure_error.IllegalOrderedRead) new =
     (ordered ≡ true) × (old.buffer.ordered ≡ false) × Rests old.buffer new.buffer × (new ≡ record old { buffer = new.buffer })
+    × (new.buffer ≡ old.buffer)
 Orders old ordered (Err ensure_error.OutOfMemory) new =
     ((ordered ≡ true) × (old.buffer.ordered ≡ false) → ⊥) × Rests old.buffer new.buffer × (new ≡ record old { buffer = new.buffer })

@@ -55,7 +55,7 @@ none_fresh = record { next = λ o h. data-fresh.held 0 h.0 h.1; any = λ o at by
 
 -- nothing is at hand of a half to which nothing came
 pub new-blocked : (window most : ℕ) → Reads (new_half window) most (Err read_error.Blocked) (new_half window)
-new-blocked window most = (refl, none_fresh, record { running = refl; rests = rests-same (new_half window).buffer; is = refl })
+new-blocked window most = (refl, none_fresh, record { running = refl; same = refl; rests = rests-same (new_half window).buffer; is = refl })
 
 -- the mode of an entry is that of its half
 pub entry-mode-of : (w : ℕ) (o : Option (Box Half)) → (half_in w o).buffer.ordered ≡ mode_of o

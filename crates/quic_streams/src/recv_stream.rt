@@ -36,11 +36,15 @@ impl<'a> RecvStream<'a> {
         RecvStream { id, state, pending }
     }
 
-    /// Opens the stream for reads, in order or as bytes come. There is no way back from unordered reads: a refused
-    /// ordered one leaves the stream as it is.
+    /// Opens the stream for reads, ordered or unordered. A stream that was read unordered cannot be read in order again.
     ///
-    /// This makes the room that the reader may need, so that its end takes no memory. What the reader does to the
-    /// state its own calls say.
+    /// This reserves what the reader may need, so that ending the reader takes no memory. The calls of the reader say
+    /// what they do to the state. On error nothing changes but reserved capacity; if memory ran out as the mode changed,
+    /// the same bytes may be buffered in other segments.
+    ///
+    /// No postcondition of this call says what an error leaves: the result borrows `self`, so `self` has no value after
+    /// the call. Those of [`RecvStream::read_some`] and [`RecvStream::read_with`], which open the stream in the same way,
+    /// say it (`refused`, `refused_pending`).
     pub fn read(&mut self, ordered: bool) -> Result<Chunks<'_>, ReadableError>
         ensures begins { IfOk result (λ chunks. Begins (streams_view self.old.state.now) self.old.id ordered (Ok tt) (streams_view chunks.streams.now)) }
         ensures refused { IfErr result (λ error. (after : World) × Begins (streams_view self.old.state.now) self.old.id ordered (Err error) after) }

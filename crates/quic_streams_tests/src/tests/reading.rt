@@ -1,9 +1,9 @@
-// What becomes of a reader that is finalized, dropped or leaked, and of the list of a read.
+// What becomes of a reader that is finalized, dropped or leaked, of a read that fails, and of the list of a read.
 use super::frames::{WINDOW, client, id, receive};
 use super::steps::{Last, Step, play};
 use super::subject::{Subject, finalize, next_chunk};
 use super::{TAKEN, is_true, same, same_at};
-use quic_receiving::Chunk;
+use quic_receiving::{Chunk, ReadableError};
 use quic_streams::recv_stream::RecvStream;
 use std::alloc::Global;
 use std::mem::forget;
@@ -98,6 +98,78 @@ const WITHOUT_CREDIT: [Step; 6] = [
 #[test]
 fn a_reader_that_is_leaked_leaves_the_stream(rt: HostRuntime) -> Result<(), Fail> {
     read_and_go_on(&rt, rt.alloc(), Ending::Leaked, None, &WITHOUT_CREDIT)
+}
+
+// Opens stream 3 for reads, which fails for this reason.
+fn fail_to_read(
+    rt: &impl Abort,
+    subject: Subject,
+    ordered: bool,
+    reason: ReadableError,
+) -> Subject {
+    let Subject {
+        mut state,
+        mut pending,
+        conn,
+        window,
+    } = subject;
+    let mut stream = RecvStream::new(id(3), &mut state, &mut pending);
+    match stream.read(ordered) {
+        Ok(_) => is_true(rt, false),
+        Err(error) => same(rt, error, reason),
+    }
+    Subject {
+        state,
+        pending,
+        conn,
+        window,
+    }
+}
+
+// One byte is received, and the steps before are taken. Then a read fails, and the steps behind it are taken.
+fn fail_between(
+    rt: &impl Abort,
+    alloc: Global,
+    before: Step,
+    ordered: bool,
+    reason: ReadableError,
+    behind: &[Step],
+) -> Result<(), Fail> {
+    let mut subject = client(alloc, 128, WINDOW, 8)?;
+    let steps = [Step::Receive(3, 0, 1, false, TAKEN), before];
+    play(rt, alloc, &mut subject, &steps)?;
+    let mut subject = fail_to_read(rt, subject, ordered, reason);
+    play(rt, alloc, &mut subject, behind)?;
+    Ok(())
+}
+
+// STOP_SENDING with the code 9 is pending, and no other frame.
+const STOPPED: [Step; 4] = [
+    Step::MaxDataWaits(false),
+    Step::WindowsWait(0),
+    Step::Credit(1, 1),
+    Step::Control(26, &[5, 3, 9]),
+];
+
+// The stream is read on.
+const READ_UNORDERED: [Step; 5] = [
+    Step::Credit(1, 1),
+    Step::Receive(3, 1, 1, false, TAKEN),
+    Step::Read(false, 8, 2, 1, Last::Blocked, true),
+    Step::Credit(2, 2),
+    Step::Window(10),
+];
+
+#[test]
+fn a_read_that_fails_changes_nothing(rt: HostRuntime) -> Result<(), Fail> {
+    let alloc = rt.alloc();
+    let stop = Step::Stop(true);
+    let closed = ReadableError::ClosedStream;
+    fail_between(&rt, alloc, stop, true, closed, &STOPPED)?;
+    fail_between(&rt, alloc, stop, false, closed, &STOPPED)?;
+    let read = Step::Read(false, 8, 2, 1, Last::Blocked, true);
+    let illegal = ReadableError::IllegalOrderedRead;
+    fail_between(&rt, alloc, read, true, illegal, &READ_UNORDERED)
 }
 
 // So many bytes come and are read into a list. Answers the list that the read gives back.

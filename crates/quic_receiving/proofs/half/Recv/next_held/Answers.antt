@@ -12,6 +12,7 @@ returns-in-Some-clause-reads c =
     rw (← c.self.view_is) (
       search rules,
       record {
+        first = e.first;
         gives = e.given;
         here = e.here;
         limit = e.limit;
@@ -35,7 +36,7 @@ returns-in_err-chunk-clause-reads c =
     let new = c.read.new.self in
     rw (← c.self.view_is)
     (no_memory old c.args.max_length c.from_residual.result (record old { buffer = new }) c.from_residual.ensures.1 c.args.ordered (search rules) e.err_more
-    (waits old new (search rules) (rests old.buffer new e.err_held e.done e.err_read e.ordered e.highest e.pieces)))
+    (waits old new (search rules) e.err (rests old.buffer new e.err_held e.done e.err_read e.ordered e.highest e.pieces)))
 
 pub returns-then-is_all-clause-reads : goal.returns-then-is_all-clause-reads
 returns-then-is_all-clause-reads c =
@@ -45,7 +46,7 @@ returns-then-is_all-clause-reads c =
     rw (← c.self.view_is) (
       search rules,
       record { next = λ o. e.none (search rules); any = λ u. e.none_unordered (search rules) },
-      waits old new (search rules) (rests old.buffer new e.none_held e.done e.none_read e.ordered e.highest e.pieces),
+      waits old new (search rules) e.none_same (rests old.buffer new e.none_held e.done e.none_read e.ordered e.highest e.pieces),
     )
 
 pub returns-clause-reads : goal.returns-clause-reads
@@ -56,7 +57,7 @@ returns-clause-reads c =
     rw (← c.self.view_is) (
       search rules,
       record { next = λ o. e.none (search rules); any = λ u. e.none_unordered (search rules) },
-      waits old new (search rules) (rests old.buffer new e.none_held e.done e.none_read e.ordered e.highest e.pieces),
+      waits old new (search rules) e.none_same (rests old.buffer new e.none_held e.done e.none_read e.ordered e.highest e.pieces),
     )
 
 pub invariant_of-self : goal.invariant_of-self
@@ -89,6 +90,7 @@ invariant_of-self-in-Some c =
     let old = the_view c.self.inside in
     let new = c.read.new.self in
     sound_buffer old new old.stopped c.self.invariant e.highest (counted-given old.buffer new c.args.max_length c.in-Some.chunk (record {
+      first = e.first;
       gives = e.given;
       here = e.here;
       limit = e.limit;
