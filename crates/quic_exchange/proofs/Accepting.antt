@@ -32,7 +32,7 @@ use Rattle.quic_steps.specs.declared.steps.End.TheVariants.{A, B}
 use Rattle.quic_steps.specs.declared.steps.Reply.TheVariants.{Id, Read, Event}
 use Rattle.quic_steps.specs.declared.steps.Last.{Last}
 use Rattle.quic_steps.specs.declared.steps.Last.TheVariants as last
-use Rattle.quic_exchange.specs.declared.sent.Sent.{Sent}
+use Rattle.quic_exchange.specs.Sent.{Sent}
 use Rattle.quic_exchange.specs.declared.phase.Going.TheVariants.{On}
 use Rattle.quic_exchange.specs.Payloads.{is_accepted}
 use Rattle.quic_exchange.specs.Replies.{Answer, accepted_reply}

@@ -16,7 +16,7 @@ use Rattle.quic_link.proofs.AskedFor.{asked-nothing}
 use Rattle.quic_endpoint.specs.Ends.{EndState}
 use Rattle.quic_steps.specs.declared.steps.End.{End}
 use Rattle.quic_steps.specs.declared.steps.End.TheVariants.{A, B}
-use Rattle.quic_exchange.specs.declared.sent.Sent.{Sent}
+use Rattle.quic_exchange.specs.Sent.{Sent}
 use Rattle.quic_exchange.specs.Payloads.{SentText}
 use Rattle.quic_exchange.specs.State.{PairState}
 use Rattle.quic_exchange.specs.History.{nothing_yet}

@@ -20,7 +20,7 @@ use Rattle.quic_link.proofs.Joint.{agrees}
 use Rattle.quic_link.proofs.Basics.{ended_closed}
 use Rattle.quic_steps.specs.declared.steps.End.{End}
 use Rattle.quic_steps.specs.declared.steps.End.TheVariants.{A, B}
-use Rattle.quic_exchange.specs.declared.sent.Sent.{Sent}
+use Rattle.quic_exchange.specs.Sent.{Sent}
 use Rattle.quic_exchange.specs.State.{peer}
 use Rattle.quic_exchange.specs.History.{Past, Flow, with_flow, tells_reset, tells_stop, completes}
 use Rattle.quic_exchange.specs.Headline.{SomeStream}

@@ -14,7 +14,7 @@ use Rattle.quic_link.proofs.Unsent.{flow-called}
 use Rattle.quic_endpoint.specs.Ends.{EndState}
 use Rattle.quic_steps.specs.declared.steps.End.{End}
 use Rattle.quic_steps.specs.declared.steps.End.TheVariants.{A, B}
-use Rattle.quic_exchange.specs.declared.sent.Sent.{Sent}
+use Rattle.quic_exchange.specs.Sent.{Sent}
 use Rattle.quic_exchange.specs.State.{PairState, peer, the_end, with_end}
 use Rattle.quic_exchange.specs.History.{Past, Flow, FramePlace, with_flow, gives_id}
 use Rattle.quic_exchange.specs.Headline.{SomeStream}

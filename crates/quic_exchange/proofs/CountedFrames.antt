@@ -26,7 +26,7 @@ use Rattle.quic_steps.specs.declared.steps.Step.{Step as PairStep}
 use Rattle.quic_steps.specs.declared.steps.Step.TheVariants as steps
 use Rattle.quic_steps.specs.declared.steps.Reply.TheVariants.{Done, DoneTransmit}
 use Rattle.quic_steps.specs.declared.steps.PairError.TheVariants.{NoSuchPayload, NoSuchFrame, OutOfMemory as NoMemory}
-use Rattle.quic_exchange.specs.declared.sent.Sent.{Sent}
+use Rattle.quic_exchange.specs.Sent.{Sent}
 use Rattle.quic_exchange.specs.Payloads.{SentText, IsFrameAt}
 use Rattle.quic_exchange.specs.Replies.{Answer, received_reply}
 use Rattle.quic_exchange.specs.State.{PairState, peer, the_end, with_end, with_sent}
@@ -38,7 +38,8 @@ use Rattle.quic_exchange.proofs.Joined.{Seen, Joined}
 use Rattle.quic_exchange.proofs.Flips.{seen-as, peer-peer}
 use Rattle.quic_exchange.proofs.Left.{AreLeft}
 use Rattle.quic_exchange.proofs.Reports.{frame-wrote}
-use Rattle.quic_exchange.proofs.OpenSides.{stops-both, side-receives, side-stopped}
+use Rattle.quic_link.proofs.Directed.{stops-both}
+use Rattle.quic_exchange.proofs.OpenSides.{side-receives, side-stopped}
 use Rattle.quic_exchange.proofs.Counted.{Counted, TellsSo, counted-untold, counted-deed, counted-at}
 use Rattle.quic_exchange.proofs.Recounted.{Recounted, Retold, made_at, left-marked, recount, recount-as, recount-same, untold}
 

@@ -33,7 +33,7 @@ use Rattle.quic_steps.specs.declared.steps.End.{End}
 use Rattle.quic_steps.specs.declared.steps.Step.TheVariants as steps
 use Rattle.quic_steps.specs.declared.steps.Reply.TheVariants.{Payload}
 use Rattle.quic_steps.specs.declared.steps.PairError.TheVariants.{OutOfMemory as NoMemory}
-use Rattle.quic_exchange.specs.declared.sent.Sent.{Sent}
+use Rattle.quic_exchange.specs.Sent.{Sent}
 use Rattle.quic_exchange.specs.Payloads.{SentText, is_control, codes_in, metas_in, noted_of}
 use Rattle.quic_exchange.specs.Replies.{Answer}
 use Rattle.quic_exchange.specs.State.{PairState}
@@ -197,8 +197,8 @@ module _ (m : Made) (t : Tale) (most : ℕ) (e between : EndState) (payload : Pa
   then_counted : Counted m between.streams t
   then_counted = control_counted m t most e between answer bytes (control_in payload) control c
 
-  begins_with : Front most (place_at between bytes (control_in payload) control.after)
-  begins_with = front_kinds most control_order (place_at e [] nothing control.before) (place_at between bytes (control_in payload) control.after) answer (front_first most e control.before) control.writes
+  begins_with : Front most (place_at e [] nothing control.before) (place_at between bytes (control_in payload) control.after)
+  begins_with = front_kinds most control_order (place_at e [] nothing control.before) (place_at e [] nothing control.before) (place_at between bytes (control_in payload) control.after) answer (front_first most e control.before) control.writes
 
   streams_behind : {fair : Bool} {last : Result (Unit {0}) OutOfMemory} → EmitsStreams most fair between bytes last f payload → PayloadCounted m t payload f
   streams_behind {fair} s =

@@ -28,10 +28,9 @@ use Rattle.quic_steps.specs.declared.steps.Step.{Step as PairStep}
 use Rattle.quic_steps.specs.declared.steps.Step.TheVariants as steps
 use Rattle.quic_steps.specs.declared.steps.Reply.TheVariants.{Done}
 use Rattle.quic_steps.specs.declared.steps.PairError.TheVariants.{NoSuchPayload, NotAccepted, AlreadySettled, OutOfMemory as NoMemory}
-use Rattle.quic_exchange.specs.declared.sent.Sent.{Sent}
+use Rattle.quic_exchange.specs.Sent.{Sent, Unsettled}
 use Rattle.quic_exchange.specs.declared.unsettled.Report.{Report}
 use Rattle.quic_exchange.specs.declared.unsettled.Report.TheVariants.{Lost, Acknowledged}
-use Rattle.quic_exchange.specs.declared.unsettled.Unsettled.{Unsettled}
 use Rattle.quic_exchange.specs.Unsettled.{may_report, goes_on}
 use Rattle.quic_exchange.specs.Replies.{Answer, report_reply}
 use Rattle.quic_exchange.specs.State.{PairState, the_end, with_end, with_sent}

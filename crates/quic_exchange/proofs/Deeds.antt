@@ -23,7 +23,7 @@ use Rattle.quic_steps.specs.declared.steps.End.{End}
 use Rattle.quic_steps.specs.declared.steps.End.TheVariants.{A, B}
 use Rattle.quic_steps.specs.declared.steps.PairError.{PairError}
 use Rattle.quic_steps.specs.declared.steps.PairError.TheVariants as refusals
-use Rattle.quic_exchange.specs.declared.sent.Sent.{Sent}
+use Rattle.quic_exchange.specs.Sent.{Sent}
 use Rattle.quic_exchange.specs.declared.unsettled.Report.{Report}
 use Rattle.quic_exchange.specs.declared.places.HandedFrame.{HandedFrame}
 use Rattle.quic_exchange.specs.Replies.{received_reply, report_reply, payload_reply}

@@ -18,7 +18,7 @@ use Rattle.quic_exchange.proofs.Origins.{Origin}
 use Rattle.quic_steps.specs.declared.steps.Reply.TheVariants.{Done, DoneTransmit}
 use Rattle.quic_steps.specs.declared.steps.PairError.TheVariants.{NoSuchPayload, NoSuchFrame, OutOfMemory as NoMemory}
 use Rattle.quic_exchange.proofs.Lists.{slice_get-slice_set, slice_set-keeps, slice_get-set_same}
-use Rattle.quic_exchange.specs.declared.sent.Sent.{Sent}
+use Rattle.quic_exchange.specs.Sent.{Sent}
 use Rattle.quic_exchange.specs.Payloads.{SentText, IsFrameAt, IsMarked, is_accepted, meta_of}
 use Rattle.quic_exchange.specs.Replies.{Answer, received_reply}
 use Rattle.quic_exchange.specs.State.{PairState, peer, the_end, with_end, with_sent}

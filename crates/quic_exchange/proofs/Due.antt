@@ -63,22 +63,21 @@ use Rattle.quic_steps.specs.declared.steps.Step.TheVariants as steps
 use Rattle.quic_steps.specs.declared.steps.Reply.TheVariants.{Done, Payload}
 use Rattle.quic_steps.specs.declared.steps.PairError.{PairError}
 use Rattle.quic_steps.specs.declared.steps.PairError.TheVariants.{UnknownId}
-use Rattle.quic_exchange.specs.declared.sent.Sent.{Sent}
+use Rattle.quic_exchange.specs.Sent.{Sent, Unsettled}
 use Rattle.quic_exchange.specs.Replies.{Answer, opened_reply, written_reply, chunks_reply, handled_reply, code_reply, read_reply, done_reply, received_reply, report_reply, last_of}
 use Rattle.quic_exchange.specs.State.{PairState, OnEnd, peer, the_end, with_end, with_sent}
 use Rattle.quic_exchange.specs.Calls.{OnGiven, ReadsSo}
 use Rattle.quic_exchange.specs.declared.unsettled.Report.TheVariants.{Lost, Acknowledged}
 use Rattle.quic_exchange.specs.Payloads.{noted_of}
-use Rattle.quic_exchange.specs.declared.unsettled.Unsettled.{Unsettled}
 use Rattle.quic_exchange.specs.Unsettled.{goes_on, may_report}
 use Rattle.quic_exchange.specs.Steps.{NextOrdinary, Emitted, HandsOver, Delivers, SettlesPayload, HasPayload}
 use Rattle.quic_exchange.specs.History.{History, past_of}
 use Rattle.quic_exchange.proofs.Eras.{EraFrom}
-use Rattle.quic_exchange.specs.Due.{AsksStreams, AsksData, AsksWindow, AsksAllOf, OpensAll, LeavesRoom, WritesAll, AsksForReset, AsksStop, AsksStopIf, AsksWindowIf, AsksAfterRead, AsksStreamsIf, AsksLarger, IsFull, IsFullIf, HasConsumed, AsksAfterFrame, AsksAgain, OnWriter, AsksFor}
+use Rattle.quic_exchange.specs.Due.{AsksStreams, AsksData, AsksWindow, AsksAllOf, OpensAll, LeavesRoom, WritesAll, AsksForReset, AsksStop, AsksStopIf, AsksWindowIf, AsksAfterRead, AsksStreamsIf, AsksLarger, IsFull, IsFullIf, LosesNone, LosesNoneIf, HasConsumed, AsksAfterFrame, AsksAgain, OnWriter, AsksFor}
 use Rattle.quic_exchange.proofs.Left.{AreLeft}
 use Rattle.quic_exchange.proofs.Grown.{joined-from, grown-from}
 use Rattle.quic_exchange.proofs.Flips.{seen-as}
-use Rattle.quic_exchange.proofs.DuePayloads.{full-payload, asks-all-of, is-last}
+use Rattle.quic_exchange.proofs.DuePayloads.{full-payload, loses-none, asks-all-of, is-last}
 
 -- ---- the end that a step changed
 
@@ -472,6 +471,15 @@ module _ (a b : Origin) (h : History) (old new : PairState) (g : EraFrom a b h o
   emits_full who most fair (Err error) k = tt
   emits_full who most fair _ k = absurd k
 
+  emits_all : (who : End) (most : ℕ) (fair : Bool) (reply : Answer) → Emitted old who most fair reply new → LosesNoneIf (the_end old who) reply (the_end new who)
+  emits_all who most fair (Ok (Payload number bytes)) k =
+      let F : EndState → Type 0 = λ e. LosesNone (the_end old who) bytes.items e in
+      let B : List ℕ → Type 0 = λ l. LosesNone (the_end old who) l k.emits.end in
+      subst F (sym (sent_end old new who k.emits.end (old.sent ++ k.emits.sent ∷ []) k.emits.is))
+      (subst B (sym k.bytes_are) (seen-as a b (past_of h) old who (joined-from g) (LosesNone (the_end old who) k.payload.bytes k.emits.end) (λ x y side s. loses-none x y s.linked s.here k.emits.emits)))
+  emits_all who most fair (Err error) k = tt
+  emits_all who most fair _ k = absurd k
+
 -- ---- all steps
 
 module _ (old new : PairState) (who : End) (id : ℕ) (reply : Answer) where
@@ -558,7 +566,7 @@ asks-for a b h old new (steps.Read who id ordered most times) reply g n = reads_
 asks-for a b h old new (steps.ReceivedReset who id) reply g n = codes_next old new who id reply n
 asks-for a b h old new (steps.SetReceiveWindow who window) reply g n = window_next old new who window reply n
 asks-for a b h old new (steps.SetMaxConcurrent who dir count) reply g n = concurrent_next old new who dir count reply n
-asks-for a b h old new (steps.Emit who most fair) reply g n = emits_full a b h old new g who most fair reply n
+asks-for a b h old new (steps.Emit who most fair) reply g n = (emits_full a b h old new g who most fair reply n, emits_all a b h old new g who most fair reply n)
 asks-for a b h old new (steps.Deliver number index) reply g n = delivers_asks old new number index reply n
 asks-for a b h old new (steps.Lose number) reply g n = let r = (grown-from g).recounted in loses_asks old new r.tales.told r.left number reply n
 asks-for a b h old new (steps.Ack number) reply g n = acks_asks old new number reply n

@@ -34,8 +34,10 @@ use Rattle.quic_link.proofs.Joint.{agrees}
 use Rattle.quic_endpoint.specs.Ends.{EndState}
 use Rattle.quic_endpoint.specs.Emitting.{PayloadView, control_in, place_at, EmitsAt, whole}
 use Rattle.quic_exchange.specs.Payloads.{is_control, codes_in, noted_of}
-use Rattle.quic_exchange.specs.Due.{IsFull, AsksAllOf}
+use Rattle.quic_exchange.specs.Due.{IsFull, AsksAllOf, ControlEntry, IsPending, frame_of, IsSpelledIn, LosesNone}
+use Rattle.quic_exchange.proofs.Entries.{frames-kept, entry-left, IsAmong, among-more, among-last}
 use Rattle.quic_exchange.proofs.Joined.{Stands}
+use Rattle.quic_exchange.proofs.Lists.{one-of-first}
 use Rattle.quic_exchange.proofs.PayloadPages.{page-control}
 
 -- ---- frames beside STREAM
@@ -61,13 +63,15 @@ entry_control (kinds.MaxStreams d) u p g v q s = control_some (frames.MaxStreams
 entry_control kinds.DataBlocked u p g v q s = chosen (is_blocked_reported u.out.budget) (frames.DataBlocked u.out.budget.max_data) g refl s.frame
 entry_control kinds.StreamDataBlocked u p g v q s = mapped (λ n. frames.StreamDataBlocked s.id n) (blocked_limit (u.out.halves s.id)) g (λ n. refl) s.frame
 
--- what a payload begins with, so far
-pub record Front (most : ℕ) (p : PayloadPlace) : Type 0 where
+-- what a payload begins with, so far, since it was begun at a place
+pub record Front (most : ℕ) (start p : PayloadPlace) : Type 0 where
   pub all : List Frame
   pub spelled : (rest : List ℕ) → BeginsFrames (p.sheet.bytes ++ rest) all rest
   pub control : (g : Frame) → IsOneOf g all → is_control g ≡ true
   pub within : length p.sheet.bytes ≤ most
   pub noted : p.sheet.sent ≡ noted_of nothing all
+  pub frames_same : (x : ControlEntry) → frame_of p.end x ≡ frame_of start.end x
+  pub kept : (x : ControlEntry) → IsPending start.pending x → IsPending p.pending x ⊎ IsAmong all (frame_of start.end x)
 
 -- a RESET_STREAM is noted behind those before
 noted_code : (p : Pending) (g : Frame) → (noted p g).reset_stream ≡ p.reset_stream ++ codes_in (g ∷ [])
@@ -94,14 +98,35 @@ noted_codes p (f ∷ fs) = noted_codes (noted p f) fs ∙ ap (λ l. l ++ codes_i
 pub codes-noted : (payload : PayloadView) (fs : List Frame) → control_in payload ≡ noted_of nothing fs → resets_of payload.sent.control ≡ codes_in fs
 codes-noted payload fs e = ap (λ (p : Pending). p.reset_stream) e ∙ noted_codes nothing fs
 
-module _ (most : ℕ) (p q : PayloadPlace) (t : Front most p) (kind : ControlKind) (room : length p.sheet.bytes + kind_bound kind < most) where
-  front_dropped : q.sheet ≡ p.sheet → Front most q
-  front_dropped same =
+module _ (most : ℕ) (start p q : PayloadPlace) (t : Front most start p) (kind : ControlKind) (room : length p.sheet.bytes + kind_bound kind < most) where
+  -- what is pending of what was, where one entry leaves
+  left_of : (o : Option Frame) (behind : List Frame) → SettlesEntry kind p.end p.pending o q.end q.pending → IsAmong (t.all ++ behind) o → (x : ControlEntry) → IsPending start.pending x → IsPending q.pending x ⊎ IsAmong (t.all ++ behind) (frame_of start.end x)
+  left_of o behind s now x h =
+      let P : Option Frame → Type 0 = λ k. IsAmong (t.all ++ behind) k in
+      elim (t.kept x h) [
+        | inl pending ↦ (elim (entry-left kind p.end p.pending o q.end q.pending s x pending) [
+          | inl still ↦ inl still
+          | inr e ↦ inr (subst P (sym (sym (t.frames_same x) ∙ e)) now)
+        ])
+        | inr done ↦ inr (among-more t.all behind (frame_of start.end x) done)
+      ]
+
+  front_dropped : SettlesEntry kind p.end p.pending None q.end q.pending → q.sheet ≡ p.sheet → Front most start q
+  front_dropped s same =
       let P : Sheet → Type 0 = λ h. (rest : List ℕ) → BeginsFrames (h.bytes ++ rest) t.all rest in
       let Q : Sheet → Type 0 = λ h. length h.bytes ≤ most in
-      record { all = t.all; spelled = subst P (sym same) t.spelled; control = t.control; within = subst Q (sym same) t.within; noted = ap (λ (h : Sheet). h.sent) same ∙ t.noted }
+      let K : List Frame → Type 0 = λ l. (x : ControlEntry) → IsPending start.pending x → IsPending q.pending x ⊎ IsAmong l (frame_of start.end x) in
+      record {
+        all = t.all;
+        spelled = subst P (sym same) t.spelled;
+        control = t.control;
+        within = subst Q (sym same) t.within;
+        noted = ap (λ (h : Sheet). h.sent) same ∙ t.noted;
+        frames_same = λ x. frames-kept kind p.end p.pending None q.end q.pending s x ∙ t.frames_same x;
+        kept = subst K (append-nil t.all) (left_of None [] s tt);
+      }
 
-  front_written : (g : Frame) → SettlesEntry kind p.end p.pending (Some g) q.end q.pending → q.sheet ≡ with_frame_written p.sheet g → FitsIn (kind_bound kind) g → Front most q
+  front_written : (g : Frame) → SettlesEntry kind p.end p.pending (Some g) q.end q.pending → q.sheet ≡ with_frame_written p.sheet g → FitsIn (kind_bound kind) g → Front most start q
   front_written g s same fits =
       let P : Sheet → Type 0 = λ h. (rest : List ℕ) → BeginsFrames (h.bytes ++ rest) (t.all ++ g ∷ []) rest in
       let Q : Sheet → Type 0 = λ h. length h.bytes ≤ most in
@@ -114,6 +139,8 @@ module _ (most : ℕ) (p q : PayloadPlace) (t : Front most p) (kind : ControlKin
         ];
         noted = ap (λ (h : Sheet). h.sent) same ∙ ap (λ (p : Pending). noted p g) t.noted ∙ sym (noted-joined nothing t.all (g ∷ []));
         within = subst Q (sym same) (let l = length-append p.sheet.bytes (text g) in let k = fits.short in omega (arith, l, k, room));
+        frames_same = λ x. frames-kept kind p.end p.pending (Some g) q.end q.pending s x ∙ t.frames_same x;
+        kept = left_of (Some g) (g ∷ []) s (among-last t.all g);
       }
     where
       spelled_more : (rest : List ℕ) → BeginsFrames ((p.sheet.bytes ++ text g) ++ rest) (t.all ++ g ∷ []) rest
@@ -122,27 +149,27 @@ module _ (most : ℕ) (p q : PayloadPlace) (t : Front most p) (kind : ControlKin
           subst P (sym (append_assoc p.sheet.bytes (text g) rest))
           (join (p.sheet.bytes ++ (text g ++ rest)) (text g ++ rest) rest t.all (g ∷ []) (t.spelled (text g ++ rest)) (rest, fits.spelled rest, refl))
 
-  front_one : SettlesOne kind p q → Front most q
+  front_one : SettlesOne kind p q → Front most start q
   front_one s = by_frame s.frame s.settles s.written s.fits
     where
-      by_frame : (frame : Option Frame) → SettlesEntry kind p.end p.pending frame q.end q.pending → q.sheet ≡ with_frame_written_if p.sheet frame → IfSome frame (FitsIn (kind_bound kind)) → Front most q
-      by_frame None k same fits = front_dropped same
+      by_frame : (frame : Option Frame) → SettlesEntry kind p.end p.pending frame q.end q.pending → q.sheet ≡ with_frame_written_if p.sheet frame → IfSome frame (FitsIn (kind_bound kind)) → Front most start q
+      by_frame None k same fits = front_dropped k same
       by_frame (Some g) k same fits = front_written g k same fits
 
-front_some : {kind : ControlKind} {most : ℕ} {p q : PayloadPlace} → Front most p → SettlesSome kind most p q → Front most q
-front_some t (none {p}) = t
-front_some {kind} {most} t (more {p} {q} {r} before room s) = front_one most q r (front_some t before) kind room s
+front_some : {kind : ControlKind} {most : ℕ} (start : PayloadPlace) {p q : PayloadPlace} → Front most start p → SettlesSome kind most p q → Front most start q
+front_some start t (none {p}) = t
+front_some {kind} {most} start t (more {p} {q} {r} before room s) = front_one most start q r (front_some start t before) kind room s
 
-pub front_kinds : (most : ℕ) (kinds : List ControlKind) (p q : PayloadPlace) (answer : Result (Unit {0}) OutOfMemory) → Front most p → WritesKinds most kinds p answer q → Front most q
-front_kinds most [] p q (Ok u) t w = let P : PayloadPlace → Type 0 = λ k. Front most k in subst P (sym w) t
-front_kinds most [] p q (Err e) t w = absurd w
-front_kinds most (k ∷ ks) p q answer t w = elim w [
-  | inl a ↦ front_kinds most ks a.0 q answer (front_some t a.1.turns) a.2
-  | inr b ↦ front_some t b.1
+pub front_kinds : (most : ℕ) (kinds : List ControlKind) (start p q : PayloadPlace) (answer : Result (Unit {0}) OutOfMemory) → Front most start p → WritesKinds most kinds p answer q → Front most start q
+front_kinds most [] start p q (Ok u) t w = let P : PayloadPlace → Type 0 = λ k. Front most start k in subst P (sym w) t
+front_kinds most [] start p q (Err e) t w = absurd w
+front_kinds most (k ∷ ks) start p q answer t w = elim w [
+  | inl a ↦ front_kinds most ks start a.0 q answer (front_some start t a.1.turns) a.2
+  | inr b ↦ front_some start t b.1
 ]
 
-pub front_first : (most : ℕ) (e : EndState) (stats : FrameStats) → Front most (place_at e [] nothing stats)
-front_first most e stats = record { all = []; spelled = λ rest. refl; control = λ g h. absurd h; within = omega arith; noted = refl }
+pub front_first : (most : ℕ) (e : EndState) (stats : FrameStats) → Front most (place_at e [] nothing stats) (place_at e [] nothing stats)
+front_first most e stats = record { all = []; spelled = λ rest. refl; control = λ g h. absurd h; within = omega arith; noted = refl; frames_same = λ x. refl; kept = λ x h. inl h }
 
 -- ---- STREAM frames behind them
 
@@ -158,7 +185,7 @@ full-payload {most} {fair} {e} {f} {payload} x y l s (whole between bytes c d) =
     let P : World → Type 0 = λ u. From z.made z.calls u in
     let from : From z.made z.calls between.streams = subst P page.world ((agrees page.linked).0).comes.from in
     let appended = d.carries z.made z.calls from in
-    let front = front_kinds most control_order (place_at e [] nothing c.before) (place_at between bytes (control_in payload) c.after) (Ok tt) (front_first most e c.before) c.writes in
+    let front = front_kinds most control_order (place_at e [] nothing c.before) (place_at e [] nothing c.before) (place_at between bytes (control_in payload) c.after) (Ok tt) (front_first most e c.before) c.writes in
     let Q : List ℕ → Type 0 = λ b. BeginsFrames b front.all [] in
     let K : Pending → Type 0 = λ p. (kind : ControlKind) → HasNoneOf kind p ⊎ (most ≤ length bytes + kind_bound kind) in
     record {
@@ -171,6 +198,30 @@ full-payload {most} {fair} {e} {f} {payload} x y l s (whole between bytes c d) =
       kinds = subst K (sym d.pending) c.full;
       streams = d.full;
     }
+
+-- and each control frame that was pending is so still, is in it, or is of no use any more
+pub loses-none : {most : ℕ} {fair : Bool} {e f : EndState} {payload : PayloadView} (x y : LinkedEnd) → Linked x y → Stands x e → EmitsAt most fair e payload (Ok tt) f → LosesNone e payload.bytes f
+loses-none {most} {fair} {e} {f} {payload} x y l s (whole between bytes c d) = λ entry h. elim (front.kept entry h) [
+  | inl pending ↦ (let P : Pending → Type 0 = λ p. IsPending p entry in inl (subst P (sym d.pending) pending))
+  | inr written ↦ inr (spelled_in (frame_of e.streams entry) written)
+]
+  where
+    start : PayloadPlace
+    start = place_at e [] nothing c.before
+
+    front : Front most start (place_at between bytes (control_in payload) c.after)
+    front = front_kinds most control_order start start (place_at between bytes (control_in payload) c.after) (Ok tt) (front_first most e c.before) c.writes
+
+    spelled_in : (o : Option Frame) → IsAmong front.all o → IsSpelledIn payload.bytes o
+    spelled_in None h = tt
+    spelled_in (Some g) h =
+        let page = page-control x y most e c.before control_order (place_at between bytes (control_in payload) c.after) (Ok tt) l s c.writes in
+        let z = page.end in
+        let P : World → Type 0 = λ u. From z.made z.calls u in
+        let appended = d.carries z.made z.calls (subst P page.world ((agrees page.linked).0).comes.from) in
+        let ms = map (frame_with (told_bytes z.made z.calls)) appended.frames in
+        let Q : List ℕ → Type 0 = λ b. BeginsFrames b (front.all ++ ms) [] in
+        (front.all ++ ms, subst Q (sym appended.bytes) (join (bytes ++ appended.text) appended.text [] front.all ms (front.spelled appended.text) appended.decodes), one-of-first g front.all ms h)
 
 -- ---- what was lost is to be sent again
 

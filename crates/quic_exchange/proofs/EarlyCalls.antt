@@ -26,7 +26,7 @@ use Rattle.quic_streams.specs.declared.settling.SentPayload.{SentPayload}
 use Rattle.quic_endpoint.specs.Ends.{EndState, with_world}
 use Rattle.quic_steps.specs.declared.steps.End.{End}
 use Rattle.quic_steps.specs.declared.steps.End.TheVariants.{A, B}
-use Rattle.quic_exchange.specs.declared.sent.Sent.{Sent}
+use Rattle.quic_exchange.specs.Sent.{Sent}
 use Rattle.quic_exchange.specs.Gone.{HaveLeft, with_noted, with_all_noted}
 use Rattle.quic_exchange.specs.State.{PairState, with_end}
 use Rattle.quic_exchange.specs.History.{Past, FramePlace}

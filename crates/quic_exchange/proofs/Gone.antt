@@ -2,7 +2,7 @@
 use Rattle.std.proofs.Common.{◌≡◌, List, [], ◌∷◌, ◌++◌, Option, Some, None, false, refl}
 use Rattle.std.specs.Prelude.{is_none}
 use Rattle.quic_retransmits.specs.Pending.{Pending}
-use Rattle.quic_exchange.specs.declared.sent.Sent.{Sent}
+use Rattle.quic_exchange.specs.Sent.{Sent}
 use Rattle.quic_exchange.specs.Gone.{with_noted, with_all_noted}
 
 pub noted-behind : (sent : List Sent) (p : Pending) (s : Sent) → with_all_noted p (sent ++ s ∷ []) ≡ with_noted (with_all_noted p sent) s.unsettled.rest

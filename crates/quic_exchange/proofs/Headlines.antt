@@ -15,7 +15,7 @@ use Rattle.quic_link.proofs.Joint.{agrees}
 use Rattle.quic_steps.specs.declared.steps.End.{End}
 use Rattle.quic_steps.specs.declared.steps.End.TheVariants.{A, B}
 use Rattle.quic_exchange.proofs.Origins.{Origin}
-use Rattle.quic_exchange.specs.declared.sent.Sent.{Sent}
+use Rattle.quic_exchange.specs.Sent.{Sent}
 use Rattle.quic_exchange.specs.State.{PairState}
 use Rattle.quic_exchange.specs.History.{Past}
 use Rattle.quic_exchange.specs.Headline.{Headline, IsFaithful, IsDelivered, IsBeginningOf, AreInOrder, SomeStream, HasOffset, HasEnd}

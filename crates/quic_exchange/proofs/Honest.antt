@@ -18,7 +18,7 @@ use Rattle.quic_link.proofs.Promised.{promised}
 use Rattle.quic_steps.specs.declared.steps.End.{End}
 use Rattle.quic_steps.specs.declared.steps.End.TheVariants.{A, B}
 use Rattle.quic_exchange.proofs.Origins.{Origin}
-use Rattle.quic_exchange.specs.declared.sent.Sent.{Sent}
+use Rattle.quic_exchange.specs.Sent.{Sent}
 use Rattle.quic_exchange.specs.State.{PairState, peer, the_end}
 use Rattle.quic_exchange.specs.History.{History, Past, Flow, past_of}
 use Rattle.quic_exchange.proofs.Eras.{EraFrom}

@@ -17,7 +17,7 @@ use Rattle.quic_endpoint.specs.Ends.{EndState}
 use Rattle.quic_steps.specs.declared.steps.End.{End}
 use Rattle.quic_steps.specs.declared.steps.End.TheVariants.{A}
 use Rattle.quic_exchange.proofs.Origins.{Origin, made_in}
-use Rattle.quic_exchange.specs.declared.sent.Sent.{Sent}
+use Rattle.quic_exchange.specs.Sent.{Sent}
 use Rattle.quic_exchange.specs.Payloads.{is_accepted, meta_of}
 use Rattle.quic_exchange.specs.State.{PairState, peer, the_end}
 use Rattle.quic_exchange.specs.History.{Past}

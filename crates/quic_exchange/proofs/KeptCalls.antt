@@ -17,7 +17,7 @@ use Rattle.quic_link.specs.Endpoints.{IsOneOf, WasStoppedWith}
 use Rattle.quic_link.specs.Promises.{KeptAt, EndKept}
 use Rattle.quic_link.proofs.Basics.{same_id}
 use Rattle.quic_steps.specs.declared.steps.End.{End}
-use Rattle.quic_exchange.specs.declared.sent.Sent.{Sent}
+use Rattle.quic_exchange.specs.Sent.{Sent}
 use Rattle.quic_exchange.specs.History.{FramePlace}
 use Rattle.quic_exchange.specs.Headline.{IsStreamFrom, SomeStream, HasOffset, HasEnd}
 use Rattle.quic_exchange.specs.Unrefused.{StreamsAt, none, on, beside}

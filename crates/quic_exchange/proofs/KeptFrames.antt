@@ -12,7 +12,7 @@ use Rattle.quic_history.specs.History.{Event, Received, ReceivedReset, Sending, 
 use Rattle.quic_link.specs.Endpoints.{LinkedEnd, acted, IsOneOf}
 use Rattle.quic_link.specs.Promises.{kept_count}
 use Rattle.quic_steps.specs.declared.steps.End.{End}
-use Rattle.quic_exchange.specs.declared.sent.Sent.{Sent}
+use Rattle.quic_exchange.specs.Sent.{Sent}
 use Rattle.quic_exchange.specs.History.{Past, FramePlace}
 use Rattle.quic_exchange.specs.Unrefused.{StreamsAt}
 use Rattle.quic_exchange.specs.Readable.{SomeReset, SomeStop}

@@ -15,7 +15,7 @@ use Rattle.quic_link.specs.Endpoints.{LinkedEnd, IsOneOf}
 use Rattle.quic_link.proofs.Basics.{same_id}
 use Rattle.quic_steps.specs.declared.steps.End.{End}
 use Rattle.quic_steps.specs.declared.steps.Reply.TheVariants.{Done, DoneTransmit}
-use Rattle.quic_exchange.specs.declared.sent.Sent.{Sent}
+use Rattle.quic_exchange.specs.Sent.{Sent}
 use Rattle.quic_exchange.specs.Payloads.{IsFrameAt}
 use Rattle.quic_exchange.specs.Replies.{received_reply}
 use Rattle.quic_exchange.specs.State.{peer}

@@ -1,11 +1,12 @@
 -- What holds of a pair, whatever steps led to it.
 use Rattle.std.proofs.Common.{◌≡◌, ◌⊎◌, ℕ, Bool, true, false, List, [], Option, Some, None, Ok, Err, refl, sym, ap, ◌∙◌, subst, inl, inr, arith, ◌≤◌, ◌+◌}
-use Rattle.std.specs.Prelude.{◌&&◌, MatchBool, is_some, max}
-use Rattle.quic_values.specs.declared.ids.Side.TheVariants.{Server}
+use Rattle.std.specs.Prelude.{◌&&◌, MatchBool, is_some, max, slice_get}
+use Rattle.quic_values.specs.declared.ids.Side.TheVariants.{Client, Server}
 use Rattle.quic_wire.specs.declared.frame.Frame.{Frame}
 use Rattle.quic_wire.specs.declared.frame.Frame.TheVariants as frames
 use Rattle.quic_wire.specs.Frames.{AreFrames}
 use Rattle.quic_retransmits.specs.Settling.{noted_in}
+use Rattle.quic_history.specs.Early.{SendsAgain}
 use Rattle.quic_link.specs.Endpoints.{IsOneOf}
 use Rattle.quic_endpoint.specs.Ends.{EndState}
 use Rattle.quic_steps.specs.declared.steps.End.{End}
@@ -15,7 +16,7 @@ use Rattle.quic_steps.specs.declared.steps.Step.TheVariants as steps
 use Rattle.quic_steps.specs.declared.steps.Reply.TheVariants.{Done}
 use Rattle.quic_steps.specs.declared.steps.PairError.TheVariants.{LimitsBelow, Undecided, Decided, OutOfMemory as NoMemory}
 use Rattle.quic_exchange.specs.declared.early.EarlyLimits.{EarlyLimits}
-use Rattle.quic_exchange.specs.declared.sent.Sent.{Sent}
+use Rattle.quic_exchange.specs.Sent.{Sent}
 use Rattle.quic_exchange.specs.Replies.{Answer}
 use Rattle.quic_exchange.specs.Payloads.{SentText}
 use Rattle.quic_exchange.specs.State.{PairState}
@@ -24,10 +25,10 @@ use Rattle.quic_exchange.specs.History.{History, FramePlace, Past, past_of, wait
 use Rattle.quic_exchange.specs.Headline.{Headline}
 use Rattle.quic_exchange.specs.Honest.{AreHonest, IsHonestFrame, IsHonestPayload, most_to, remembered_data, remembered_window, amount_given}
 use Rattle.quic_exchange.specs.Refused.{IsRefused, IsRefusedIn, IsRefusedSo, IsAcceptedSo, IsDecidedSo}
-use Rattle.quic_exchange.specs.Unrefused.{RefusesNoFrame}
+use Rattle.quic_exchange.specs.Unrefused.{RefusesNoFrame, IsWelcomePayload, AreAllWelcome}
 use Rattle.quic_exchange.specs.Readable.{WithholdsNothing}
 use Rattle.quic_exchange.specs.Law.{Drains}
-use Rattle.quic_exchange.specs.Due.{AsksFor, AsksAllOf, AsksAllAgain}
+use Rattle.quic_exchange.specs.Due.{AsksFor, AsksAllOf, AsksAllAgain, SendsAllAgain}
 use Rattle.quic_exchange.specs.From.{Beginning, PairFrom, next, made_of, end_begun, limits_of_a, waits_first}
 use Rattle.quic_exchange.specs.Runs.{PermitsAll, sendings_of}
 use Rattle.quic_exchange.specs.Tale.{Tales, StepTells}
@@ -36,7 +37,7 @@ use Rattle.quic_exchange.proofs.Grown.{headline-from}
 use Rattle.quic_exchange.proofs.Honest.{honest-from}
 use Rattle.quic_exchange.proofs.RefusedSo.{refused-so}
 use Rattle.quic_exchange.proofs.Served.{refused-stays}
-use Rattle.quic_exchange.proofs.Unrefused.{unrefused-so}
+use Rattle.quic_exchange.proofs.Unrefused.{unrefused-so, welcome-from}
 use Rattle.quic_exchange.proofs.Readable.{readable-so}
 use Rattle.quic_exchange.proofs.Drained.{drains-so}
 use Rattle.quic_exchange.proofs.Due.{asks-for}
@@ -45,6 +46,7 @@ use Rattle.quic_exchange.proofs.ToldOnce.{told-once, told-in-once, tells-next-on
 use Rattle.quic_exchange.proofs.Beneath.{asks-beneath, asks-noted, waits-stay}
 use Rattle.quic_exchange.proofs.Wide.{wide_made, most_of_streams, as_linked, linked_at, decided-same, waiting-same}
 use Rattle.quic_exchange.proofs.Led.{Led}
+use Rattle.quic_exchange.proofs.OwnDoings.{own-unacked}
 use Rattle.quic_exchange.proofs.LedSteps.{led-from, ordinary-linked, tells-ordinary}
 
 -- the payloads are the same beside a wide server
@@ -135,6 +137,16 @@ honest-led {s} {h} {v} f = by v.waits refl
           }
           | inr left ↦ no_frames (past_of h) v x left.text
         ]
+
+-- ---- what is sent is welcome
+
+pub welcome-led : {s : Beginning} {h : History} {v : PairState} → PairFrom s h v → AreAllWelcome v
+welcome-led {s} {h} {v} f decided number x got =
+    let P : PairState → Type 0 = λ u. (n : ℕ) (y : Sent) → slice_get u.sent n ≡ Some y → IsWelcomePayload u y in
+    let l = led-from f in
+    let all : P (as_linked s v) = λ n y g. welcome-from l.at.era n y g in
+    let here : P v = subst P (decided-same s v decided) all in
+    here number x got
 
 -- ---- each step
 
@@ -324,11 +336,11 @@ module _ (s : Beginning) (h : History) (old new : PairState) (f : PairFrom s h o
   asks_refused (steps.ReceivedReset who id) = tt
   asks_refused (steps.SetReceiveWindow who window) = tt
   asks_refused (steps.SetMaxConcurrent who dir count) = tt
-  asks_refused (steps.Emit who most fair) = tt
+  asks_refused (steps.Emit who most fair) = (tt, tt)
   asks_refused (steps.Deliver number index) = tt
   asks_refused (steps.Lose number) = tt
   asks_refused (steps.Ack number) = tt
-  asks_refused steps.Retry = tt
+  asks_refused steps.Retry = (tt, tt)
   asks_refused _ = tt
 
   asks_again : (reply : Answer) → Retried old reply new → AsksAllAgain old.sent reply new.a
@@ -337,6 +349,13 @@ module _ (s : Beginning) (h : History) (old new : PairState) (f : PairFrom s h o
       subst P (sym (ap (λ (v : PairState). v.a) k.is)) (asks-noted old.sent old.a.pending number x rest got rest_is)
   asks_again (Err error) k = tt
   asks_again _ k = absurd k
+
+  sends_again : (reply : Answer) → Retried old reply new → SendsAllAgain old.a.streams reply new.a.streams
+  sends_again (Ok Done) k =
+      let P : EndState → Type 0 = λ e. SendsAgain old.a.streams (Ok tt) e.streams in
+      subst P (sym (ap (λ (v : PairState). v.a) k.is)) (k.again (own-unacked (made_of Client s.a) old.a.streams (led.early k.limits k.waiting).own))
+  sends_again (Err error) k = tt
+  sends_again _ k = absurd k
 
   asks_ordinary : (step : Step) (reply : Answer) → (is_some old.waits && needs_decision step) ≡ false → NextOrdinary old step reply new → AsksFor old step reply new
   asks_ordinary step reply free o = by old.waits refl
@@ -360,7 +379,7 @@ module _ (s : Beginning) (h : History) (old new : PairState) (f : PairFrom s h o
   asks_taken : (step : Step) (reply : Answer) → (is_some old.waits && needs_decision step) ≡ false → NextTaken old step reply new → AsksFor old step reply new
   asks_taken steps.EarlyAccept reply free k = tt
   asks_taken steps.EarlyReject reply free k = tt
-  asks_taken steps.Retry reply free k = asks_again reply k
+  asks_taken steps.Retry reply free k = (asks_again reply k, sends_again reply k)
   asks_taken step reply free k = asks_ordinary step reply free k
 
   asks_led : (step : Step) (reply : Answer) → Next old step reply new → AsksFor old step reply new

@@ -12,9 +12,8 @@ use Rattle.quic_streams.specs.declared.settling.SentPayload.{SentPayload}
 use Rattle.quic_streams.specs.Settling.{SentView, resets_of}
 use Rattle.quic_streams.specs.Sent.{sent_view}
 use Rattle.quic_link.specs.Endpoints.{IsOneOf}
-use Rattle.quic_exchange.specs.declared.sent.Sent.{Sent}
+use Rattle.quic_exchange.specs.Sent.{Sent, Unsettled}
 use Rattle.quic_exchange.specs.declared.unsettled.Report.TheVariants.{Lost}
-use Rattle.quic_exchange.specs.declared.unsettled.Unsettled.{Unsettled}
 use Rattle.quic_exchange.specs.Unsettled.{goes_on}
 use Rattle.quic_exchange.specs.Payloads.{meta_of, metas_in, codes_in, noted_of}
 use Rattle.quic_exchange.specs.Tale.{Part, Carried, GivenUp, parts_in, parts_of}

@@ -25,6 +25,7 @@ pub mod Drained
 pub mod Due
 pub mod DuePayloads
 pub mod EarlyCalls
+pub mod Entries
 pub mod Eras
 pub mod Finished
 pub mod Flips
@@ -45,6 +46,7 @@ pub mod LedSteps
 pub mod Left
 pub mod Lists
 pub mod Marks
+pub mod Network
 pub mod NotWithheld
 pub mod Notified
 pub mod NotifiedSteps

@@ -301,7 +301,7 @@ none_left m w t c id e k =
 
 leaves_so : (a b : Origin) (h : History) (old new : PairState) (r : Recounted a b new) (step : Step) (reply : Answer) → EraFrom a b h old → NextOrdinary old step reply new → LeavesNone r.tales step reply
 leaves_so a b h old new r (steps.Emit who most fair) (Ok (Payload number bytes)) f n =
-    let full : IsFull most bytes.items (the_end new who) = asks-for a b h old new (steps.Emit who most fair) (Ok (Payload number bytes)) f n in
+    let full : IsFull most bytes.items (the_end new who) = (asks-for a b h old new (steps.Emit who most fair) (Ok (Payload number bytes)) f n).0 in
     λ id rest. elim full.streams [
       | inl none ↦ absurd (none_left (made_at a b who) (the_end new who).streams (r.tales.of who) (r.counted who) id none rest)
       | inr fills ↦ fills

@@ -1,5 +1,5 @@
 -- Streams that frames speak of have a sending side at the end that sends on them.
-use Rattle.std.proofs.Common.{◌≡◌, ℕ, Bool, true, false, List, Option, None, Ok, refl, sym, ap, ◌∙◌, subst, inl, inr, arith, ◌<◌, ◌≤◌}
+use Rattle.std.proofs.Common.{◌≡◌, ℕ, Bool, true, false, refl, sym, ap, ◌∙◌, subst, arith, ◌<◌, ◌≤◌}
 use Rattle.std.specs.Prelude.{not, nat_lt, if◌then◌else◌}
 use Rattle.std.proofs.lemmas.Bool.Decides.{nat_tests}
 use Rattle.quic_values.specs.declared.ids.Side.{Side}
@@ -8,45 +8,13 @@ use Rattle.quic_values.specs.declared.ids.Dir.TheVariants.{Bi, Uni}
 use Rattle.quic_values.specs.Ids.{dir_of, index_of}
 use Rattle.quic_outgoing.specs.Outgoing.{own_of}
 use Rattle.quic_outgoing.specs.Senders.{is_local}
-use Rattle.quic_history.specs.World.{World, is_own, remote_of, id_refusal, own_refusal}
+use Rattle.quic_history.specs.World.{remote_of}
 use Rattle.quic_history.specs.Flows.{has_side_in, is_answered_on}
-use Rattle.quic_history.specs.History.{Event, Stopped, Step, opened_in_all, trace}
-use Rattle.quic_history.proofs.StreamSteps.{known-from}
-use Rattle.quic_link.specs.Endpoints.{LinkedEnd, Linked, begun, first_acts, second_acts, IsNewEnd, MayAct, acted, IsOneOf, WasStoppedWith}
-use Rattle.quic_link.proofs.Ends.{Comes}
-use Rattle.quic_link.proofs.Joint.{Agrees, agrees}
-use Rattle.quic_link.proofs.Opens.{own-local, local-other, OpenBy, IsOpenAt, SendsOn, ReceivesOn, open-turned, opened-is}
-
--- ---- only streams that an end receives on are stopped
-
--- a stream of its own that an end stopped goes both ways
-abbrev pub StopsBoth : LinkedEnd → Type 0
-StopsBoth x = (id code : ℕ) → WasStoppedWith x.calls id code → is_local x.made.side id ≡ true → dir_of id ≡ Bi
-
-own_both : (w : World) (own : Bool) (d : Dir) (i : ℕ) (o : Option ℕ) → own ≡ true → (if own then own_refusal w d i else o) ≡ None → d ≡ Bi
-own_both w true Bi i o e k = refl
-own_both w true Uni i o e k = cc
-own_both w false d i o e k = cc
-
-stopped_both : (x y : LinkedEnd) (id code : ℕ) (v : World) → Comes x → Step x.world (Stopped id code (Ok tt)) v → is_local x.made.side id ≡ true → dir_of id ≡ Bi
-stopped_both x y id code v f s mine =
-    let half = s.2 in
-    let known : id_refusal x.world id ≡ None = known-from (trace x.calls) x.world id half.0 f.facts.streams half.2 in
-    own_both x.world (is_own x.world id) (dir_of id) (index_of id) _ (own-local x.world x.made.side id f.side ∙ mine) known
-
-stops_acted : (x y : LinkedEnd) (e : Event) (v : World) → Comes x → MayAct x y e v → StopsBoth x → StopsBoth (acted x e v)
-stops_acted x y e v f a k id code h mine = elim h [
-  | inl is ↦ (let P : Event → Type 0 = λ j. Step x.world j v in stopped_both x y id code v f (subst P (sym is) a.step) mine)
-  | inr old ↦ k id code old mine
-]
-
-stops_new : (x : LinkedEnd) → IsNewEnd x → StopsBoth x
-stops_new x n id code h mine = let P : List Event → Type 0 = λ l. IsOneOf (Stopped id code (Ok tt)) l in absurd (subst P n.calls h)
-
-pub stops-both : {x y : LinkedEnd} → Linked x y → StopsBoth x × StopsBoth y
-stops-both {x} {y} (begun n m s) = (stops_new x n, stops_new y m)
-stops-both (first_acts {x} {y} e v l a) = let k = stops-both l in (stops_acted x y e v ((agrees l).0).comes a k.0, k.1)
-stops-both (second_acts {x} {y} e v l a) = let k = stops-both l in (k.0, stops_acted y x e v ((agrees l).1).comes a k.1)
+use Rattle.quic_history.specs.History.{opened_in_all}
+use Rattle.quic_link.specs.Endpoints.{LinkedEnd, WasStoppedWith}
+use Rattle.quic_link.proofs.Directed.{StopsBoth}
+use Rattle.quic_link.proofs.Joint.{Agrees}
+use Rattle.quic_link.proofs.Opens.{local-other, OpenBy, IsOpenAt, SendsOn, ReceivesOn, open-turned, opened-is}
 
 -- ---- streams that are open have a sending side
 

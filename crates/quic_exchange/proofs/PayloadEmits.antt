@@ -32,7 +32,7 @@ use Rattle.quic_steps.specs.declared.steps.Step.TheVariants as steps
 use Rattle.quic_steps.specs.declared.steps.Reply.TheVariants.{Payload}
 use Rattle.quic_steps.specs.declared.steps.PairError.TheVariants.{OutOfMemory as NoMemory}
 use Rattle.quic_exchange.proofs.Lists.{slice_get-push, slice_get-append_left}
-use Rattle.quic_exchange.specs.declared.sent.Sent.{Sent}
+use Rattle.quic_exchange.specs.Sent.{Sent}
 use Rattle.quic_exchange.specs.Payloads.{SentText}
 use Rattle.quic_exchange.specs.Replies.{Answer}
 use Rattle.quic_exchange.specs.State.{PairState, peer}

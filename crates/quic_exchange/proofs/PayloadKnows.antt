@@ -15,7 +15,7 @@ use Rattle.quic_link.specs.Truths.{amount_on}
 use Rattle.quic_endpoint.specs.Ends.{EndState}
 use Rattle.quic_steps.specs.declared.steps.End.{End}
 use Rattle.quic_steps.specs.declared.steps.End.TheVariants.{A, B}
-use Rattle.quic_exchange.specs.declared.sent.Sent.{Sent}
+use Rattle.quic_exchange.specs.Sent.{Sent}
 use Rattle.quic_exchange.specs.Payloads.{IsFrameAt, meta_of}
 use Rattle.quic_exchange.specs.State.{PairState, peer, the_end, with_end, with_sent}
 use Rattle.quic_exchange.specs.History.{Past, Flow, FramePlace}

@@ -29,7 +29,7 @@ use Rattle.quic_steps.specs.declared.steps.End.TheVariants.{A, B}
 use Rattle.quic_steps.specs.declared.steps.Step.TheVariants as steps
 use Rattle.quic_steps.specs.declared.steps.Reply.TheVariants.{Done, Payload}
 use Rattle.quic_steps.specs.declared.steps.PairError.TheVariants.{NoSuchPayload, NotAccepted, AlreadySettled, OutOfMemory as NoMemory}
-use Rattle.quic_exchange.specs.declared.sent.Sent.{Sent}
+use Rattle.quic_exchange.specs.Sent.{Sent}
 use Rattle.quic_exchange.specs.declared.unsettled.Report.TheVariants.{Lost}
 use Rattle.quic_exchange.specs.declared.phase.Phase.{Phase}
 use Rattle.quic_exchange.specs.declared.phase.Phase.TheVariants as phase

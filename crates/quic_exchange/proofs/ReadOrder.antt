@@ -34,7 +34,7 @@ use Rattle.quic_steps.specs.declared.steps.Last.{Last}
 use Rattle.quic_steps.specs.declared.steps.Last.TheVariants as last
 use Rattle.quic_wire.specs.declared.event.StreamEvent.{StreamEvent}
 use Rattle.quic_wire.specs.declared.event.StreamEvent.TheVariants as stream_event
-use Rattle.quic_exchange.specs.declared.sent.Sent.{Sent}
+use Rattle.quic_exchange.specs.Sent.{Sent}
 use Rattle.quic_exchange.specs.declared.unsettled.Report.{Report}
 use Rattle.quic_exchange.specs.declared.unsettled.Report.TheVariants.{Lost, Acknowledged}
 use Rattle.quic_exchange.specs.declared.phase.Phase.{Phase}

@@ -16,7 +16,7 @@ use Rattle.quic_exchange.proofs.Origins.{Origin}
 use Rattle.quic_steps.specs.declared.steps.End.{End}
 use Rattle.quic_steps.specs.declared.steps.End.TheVariants.{A, B}
 use Rattle.quic_steps.specs.declared.steps.Reply.TheVariants.{Read, Event}
-use Rattle.quic_exchange.specs.declared.sent.Sent.{Sent}
+use Rattle.quic_exchange.specs.Sent.{Sent}
 use Rattle.quic_exchange.specs.Replies.{Answer}
 use Rattle.quic_exchange.specs.Readable.{HasNothingLeft, IsFlowOver, SomeReset}
 use Rattle.quic_exchange.specs.Unrefused.{StreamsAt, none, on, beside}

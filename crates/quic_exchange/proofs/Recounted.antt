@@ -22,11 +22,10 @@ use Rattle.quic_exchange.proofs.Origins.{Origin, made_in}
 use Rattle.quic_steps.specs.declared.steps.End.{End}
 use Rattle.quic_steps.specs.declared.steps.End.TheVariants.{A, B}
 use Rattle.quic_steps.specs.declared.steps.Step.{Step}
-use Rattle.quic_exchange.specs.declared.sent.Sent.{Sent}
+use Rattle.quic_exchange.specs.Sent.{Sent, Unsettled}
 use Rattle.quic_exchange.specs.declared.unsettled.Report.{Report}
 use Rattle.quic_exchange.specs.declared.unsettled.Report.TheVariants.{Lost, Acknowledged}
 use Rattle.quic_exchange.specs.Payloads.{SentText, metas_in, codes_in, noted_of}
-use Rattle.quic_exchange.specs.declared.unsettled.Unsettled.{Unsettled}
 use Rattle.quic_exchange.specs.Unsettled.{goes_on, unsettled_after}
 use Rattle.quic_exchange.specs.Replies.{Answer}
 use Rattle.quic_exchange.specs.State.{PairState, the_end, with_end, with_sent}

@@ -25,11 +25,10 @@ use Rattle.quic_steps.specs.declared.steps.End.{End}
 use Rattle.quic_exchange.proofs.Origins.{Origin}
 use Rattle.quic_steps.specs.declared.steps.Reply.TheVariants.{Done}
 use Rattle.quic_steps.specs.declared.steps.PairError.TheVariants.{NoSuchPayload, NotAccepted, AlreadySettled, OutOfMemory as NoMemory}
-use Rattle.quic_exchange.specs.declared.sent.Sent.{Sent}
+use Rattle.quic_exchange.specs.Sent.{Sent, Unsettled}
 use Rattle.quic_exchange.specs.declared.unsettled.Report.{Report}
 use Rattle.quic_exchange.specs.declared.unsettled.Report.TheVariants.{Lost, Acknowledged}
 use Rattle.quic_exchange.specs.Payloads.{IsFrameAt, AreAllAccepted, meta_of}
-use Rattle.quic_exchange.specs.declared.unsettled.Unsettled.{Unsettled}
 use Rattle.quic_exchange.specs.Unsettled.{unsettled_after}
 use Rattle.quic_exchange.specs.Replies.{Answer}
 use Rattle.quic_exchange.specs.State.{PairState, peer, the_end, with_end, with_sent}

@@ -3,14 +3,15 @@ use Rattle.std.proofs.Common.{◌≡◌, Option, List, [], ◌∷◌, ◌++◌, 
 use Rattle.std.specs.List.{zip}
 use Rattle.quic_steps.specs.declared.steps.Step.{Step}
 use Rattle.quic_exchange.specs.declared.early.EarlyLimits.{EarlyLimits}
-use Rattle.quic_exchange.specs.declared.sent.Sent.{Sent}
+use Rattle.quic_exchange.specs.Sent.{Sent}
 use Rattle.quic_exchange.specs.Replies.{Answer}
 use Rattle.quic_exchange.specs.State.{PairState}
 use Rattle.quic_exchange.specs.Steps.{Next}
 use Rattle.quic_exchange.specs.History.{History, Past, past_of, waits_from}
 use Rattle.quic_exchange.specs.From.{Beginning, waits_first, PairFrom, next}
-use Rattle.quic_exchange.specs.Runs.{StepByStep, none, more, TakesSteps, Behind, BehindEarly, Around, Throughout, IsTrueOf, StaysIfRefused, AsksOf, WithholdsNone}
+use Rattle.quic_exchange.specs.Runs.{StepByStep, none, more, TakesSteps, Behind, BehindEarly, Around, Throughout, IsTrueOf, StaysIfRefused, NetworkOf, AsksOf, WithholdsNone}
 use Rattle.quic_exchange.proofs.Leads.{headline-led, honest-led, stays-led, asks-led, not-withheld-led}
+use Rattle.quic_exchange.proofs.Network.{changes-network}
 
 -- one more step and one more reply
 zip-behind : {X Y : Type 0} (xs : List X) (ys : List Y) (x : X) (y : Y) → length ys ≡ length xs → zip (xs ++ x ∷ []) (ys ++ y ∷ []) ≡ zip xs ys ++ (x, y) ∷ []
@@ -67,6 +68,12 @@ pub each-stays : (old : PairState) (taken : History) (new : PairState) → Takes
 each-stays old _ _ none = none
 each-stays old _ _ (more {taken} {between} {new} step reply run n each) =
     more step reply (each-stays old taken between run) n (λ r. stays-led between new step reply n r)
+
+-- each step of a run changed the network as it may
+pub each-network : (old : PairState) (taken : History) (new : PairState) → TakesSteps old taken new → StepByStep NetworkOf old taken new
+each-network old _ _ none = none
+each-network old _ _ (more {taken} {between} {new} step reply run n each) =
+    more step reply (each-network old taken between run) n (changes-network between new step reply n)
 
 -- no step of a run withheld what was due
 pub each-asks : (s : Beginning) (h : History) (old : PairState) (taken : History) (new : PairState) → PairFrom s h old → TakesSteps old taken new → StepByStep AsksOf old taken new

@@ -30,7 +30,7 @@ use Rattle.quic_steps.specs.declared.steps.End.TheVariants.{A, B}
 use Rattle.quic_steps.specs.declared.steps.Step.TheVariants as steps
 use Rattle.quic_steps.specs.declared.steps.Reply.TheVariants.{Done, Payload}
 use Rattle.quic_steps.specs.declared.steps.PairError.TheVariants.{NoSuchPayload, AlreadySettled, NotAccepted, OutOfMemory as NoMemory}
-use Rattle.quic_exchange.specs.declared.sent.Sent.{Sent}
+use Rattle.quic_exchange.specs.Sent.{Sent}
 use Rattle.quic_exchange.specs.declared.unsettled.Report.{Report}
 use Rattle.quic_exchange.specs.declared.unsettled.Report.TheVariants.{Lost}
 use Rattle.quic_exchange.specs.declared.phase.Phase.{Phase}
@@ -223,7 +223,7 @@ module _ (a b : Origin) (h : History) (old new : PairState) (f : EraFrom a b h o
   idle_then : (who : End) (reply : Answer) → NextOrdinary old (steps.Emit who most true) reply new → WroteNone old who most reply new → IsIdle (the_end new who)
   idle_then who reply n w =
       let P : Answer → Type 0 = λ r. NextOrdinary old (steps.Emit who most true) r new in
-      full_idle most big w.bytes.items (the_end new who) (asks-for a b h old new (steps.Emit who most true) (Ok (Payload w.number w.bytes)) f (subst P w.reply_is n)) w.none
+      full_idle most big w.bytes.items (the_end new who) (asks-for a b h old new (steps.Emit who most true) (Ok (Payload w.number w.bytes)) f (subst P w.reply_is n)).0 w.none
 
   idle_if : (going : Going) (reply : Answer) → NextOrdinary old (steps.Emit A most true) reply new → going_of reply ≡ Some going → IsIdleIf (is_nothing_more going) (length old.sent) new
   idle_if Over reply n e =

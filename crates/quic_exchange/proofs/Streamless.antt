@@ -22,7 +22,7 @@ use Rattle.quic_exchange.proofs.Origins.{Origin}
 use Rattle.quic_steps.specs.declared.steps.End.{End}
 use Rattle.quic_steps.specs.declared.steps.Reply.TheVariants.{Done, DoneTransmit, Fault, Payload}
 use Rattle.quic_steps.specs.declared.steps.PairError.TheVariants.{NoSuchPayload, NoSuchFrame, NotAccepted, AlreadySettled, OutOfMemory as NoMemory}
-use Rattle.quic_exchange.specs.declared.sent.Sent.{Sent}
+use Rattle.quic_exchange.specs.Sent.{Sent}
 use Rattle.quic_exchange.specs.declared.unsettled.Report.{Report}
 use Rattle.quic_exchange.specs.declared.phase.Going.{Going}
 use Rattle.quic_exchange.specs.Unsettled.{is_quiet, unsettled_after}

@@ -12,7 +12,7 @@ use Rattle.quic_history.specs.World.{World}
 use Rattle.quic_history.specs.SendEvents.{RaisedLimit, RaisedCount}
 use Rattle.quic_history.specs.History.{Event, Received, ReceivedReset, Sending, Fits, Step as StepOf}
 use Rattle.quic_link.specs.Endpoints.{LinkedEnd, MayAct, IsHonest, IsOneOf}
-use Rattle.quic_link.specs.Promises.{IsCrowded, IsUnrefused as IsUnrefusedCall}
+use Rattle.quic_link.specs.Promises.{IsCrowded, IsWelcome, AreWelcome, IsUnrefused as IsUnrefusedCall}
 use Rattle.quic_link.proofs.Promised.{promised}
 use Rattle.quic_endpoint.specs.Ends.{EndState}
 use Rattle.quic_endpoint.specs.Receiving.{MakesCall, MayAnswer, event_of, with_answer_told}
@@ -22,15 +22,15 @@ use Rattle.quic_exchange.proofs.Origins.{Origin}
 use Rattle.quic_steps.specs.declared.steps.Step.{Step}
 use Rattle.quic_steps.specs.declared.steps.Step.TheVariants as steps
 use Rattle.quic_steps.specs.declared.steps.Reply.TheVariants.{Done, DoneTransmit}
-use Rattle.quic_exchange.specs.declared.sent.Sent.{Sent}
+use Rattle.quic_exchange.specs.Sent.{Sent}
 use Rattle.quic_exchange.specs.Payloads.{IsFrameAt}
 use Rattle.quic_exchange.specs.Replies.{Answer, received_reply}
 use Rattle.quic_exchange.specs.State.{PairState, peer, the_end, with_end, with_sent}
 use Rattle.quic_exchange.specs.Steps.{NextOrdinary, Delivers, HandsOver}
 use Rattle.quic_exchange.specs.History.{Past, FramePlace, History, past_of}
-use Rattle.quic_exchange.specs.Unrefused.{BringsData, BringsTooMany, AnswersDelivery, RefusesNoFrame}
+use Rattle.quic_exchange.specs.Unrefused.{BringsData, BringsTooMany, AnswersDelivery, RefusesNoFrame, IsWelcomePayload}
 use Rattle.quic_exchange.proofs.Eras.{EraFrom}
-use Rattle.quic_exchange.proofs.Joined.{Seen, Joined}
+use Rattle.quic_exchange.proofs.Joined.{Stands, IsPayloadOf, Seen, Joined}
 use Rattle.quic_exchange.proofs.KeptFrames.{kept_in, count-kept}
 use Rattle.quic_exchange.proofs.Flips.{peer-peer, seen-as}
 use Rattle.quic_exchange.proofs.CallsSeen.{step-at}
@@ -135,3 +135,22 @@ module _ (a b : Origin) (p : Past) (old new : PairState) (j : Joined a b p old) 
 -- whatever the network did, no delivery is
 pub unrefused-so : (a b : Origin) (h : History) (old new : PairState) (step : Step) (reply : Answer) → EraFrom a b h old → NextOrdinary old step reply new → RefusesNoFrame (past_of h) old.sent step reply new
 unrefused-so a b h old new step reply f n = unrefused_next a b (past_of h) old new (joined-from f) step reply n
+
+-- ---- every frame is welcome
+
+welcome_at : (v : PairState) (s : Sent) (who : End) (x y : LinkedEnd) → s.writer ≡ who → AreWelcome x y → IsPayloadOf x y s → Stands y (the_end v (peer who)) → IsWelcomePayload v s
+welcome_at v s who x y e all of there = record {
+  all = of.all;
+  spelled = of.spelled;
+  welcome = λ g listed.
+      let P : World → Type 0 = λ w. IsWelcome w g in
+      let Q : End → Type 0 = λ k. IsWelcome (the_end v (peer k)).streams g in
+      subst Q (sym e) (subst P there.world (all g (of.wrote g listed)));
+}
+
+welcome_of : (a b : Origin) (p : Past) (v : PairState) → Joined a b p v → (number : ℕ) (s : Sent) → slice_get v.sent number ≡ Some s → (w : End) → s.writer ≡ w → IsWelcomePayload v s
+welcome_of a b p v j number s is A e = welcome_at v s A j.first j.second e (promised j.seen.linked).0.welcome (j.seen.own number s is e) j.seen.there
+welcome_of a b p v j number s is B e = welcome_at v s B j.second j.first e (promised j.seen.linked).1.welcome (j.seen.others number s is e) j.seen.here
+
+pub welcome-from : {a b : Origin} {h : History} {v : PairState} → EraFrom a b h v → (number : ℕ) (s : Sent) → slice_get v.sent number ≡ Some s → IsWelcomePayload v s
+welcome-from {a} {b} {h} {v} f number s is = welcome_of a b (past_of h) v (joined-from f) number s is s.writer refl

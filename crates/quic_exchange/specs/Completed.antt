@@ -6,7 +6,7 @@ use Rattle.quic_receiving.specs.Data.{IsAllGiven}
 use Rattle.quic_history.specs.History.{slices}
 use Rattle.quic_link.specs.Endpoints.{IsOneOf}
 use Rattle.quic_steps.specs.declared.steps.End.{End}
-use Rattle.quic_exchange.specs.declared.sent.Sent.{Sent}
+use Rattle.quic_exchange.specs.Sent.{Sent}
 use Rattle.quic_exchange.specs.History.{Past, Flow, FramePlace}
 use Rattle.quic_exchange.specs.Tale.{Tales}
 use Rattle.quic_exchange.specs.Headline.{SomeStream, HasOffset, HasEnd}

@@ -1,24 +1,27 @@
 -- What is due is asked for, what may be written is taken, and what is to be sent leaves: of each step, by the two ends as
 -- they stand before it and behind it.
-use Rattle.std.specs.Prelude.{ℕ, Bool, true, false, ◌≡◌, ◌⊎◌, ◌<◌, ◌≤◌, ◌+◌, min, List, [], ◌++◌, length, slice_get, None, Some, Ok, Err}
+use Rattle.std.specs.Prelude.{ℕ, Bool, true, false, ◌≡◌, ◌⊎◌, ◌<◌, ◌≤◌, ◌+◌, min, List, [], ◌++◌, length, slice_get, Option, None, Some, Ok, Err}
 use Rattle.std.specs.List.{concat}
 use Rattle.quic_values.specs.declared.ids.Dir.{Dir}
 use Rattle.quic_wire.specs.declared.frame.Frame.{Frame}
+use Rattle.quic_wire.specs.declared.frame.Frame.TheVariants as frames
 use Rattle.quic_wire.specs.Frames.{AreFrames}
 use Rattle.quic_sending.specs.declared.send.Send.{Send}
 use Rattle.quic_sending.specs.Sending.{permitted}
-use Rattle.quic_limits.specs.Credit.{Credit, is_max_data_due}
+use Rattle.quic_limits.specs.Credit.{Credit, is_max_data_due, max_data_of}
 use Rattle.quic_limits.specs.Remote.{is_max_streams_due}
 use Rattle.quic_limits.specs.SendingCredit.{writable}
 use Rattle.quic_outgoing.specs.Outgoing.{Outgoing, own_of}
 use Rattle.quic_queue.specs.SendOrder.{line}
 use Rattle.quic_receiving.specs.Half.{Half}
 use Rattle.quic_retransmits.specs.Pending.{Pending, nothing}
-use Rattle.quic_retransmits.specs.Settling.{noted_in}
+use Rattle.quic_retransmits.specs.Settling.{noted_in, max_streams_in}
 use Rattle.quic_streams.specs.declared.settling.SentPayload.{SentPayload}
-use Rattle.quic_history.specs.Control.{HasNoneOf, kind_bound}
+use Rattle.quic_history.specs.Control.{HasNoneOf, kind_bound, reset_frame, window_frame, data_blocked_frame, stream_blocked_frame}
 use Rattle.quic_history.specs.declared.control.ControlKind.{ControlKind}
+use Rattle.quic_history.specs.Early.{SendsAgain}
 use Rattle.quic_history.specs.Halves.{is_due_in}
+use Rattle.quic_history.specs.World.{World, remote_of}
 use Rattle.quic_link.specs.Endpoints.{IsOneOf}
 use Rattle.quic_endpoint.specs.Ends.{EndState}
 use Rattle.quic_steps.specs.declared.steps.Last.{Last}
@@ -26,7 +29,7 @@ use Rattle.quic_steps.specs.declared.steps.Last.TheVariants as last
 use Rattle.quic_steps.specs.declared.steps.Step.{Step}
 use Rattle.quic_steps.specs.declared.steps.Step.TheVariants as steps
 use Rattle.quic_steps.specs.declared.steps.Reply.TheVariants.{Done, Nothing, Wrote, WroteChunks, Blocked, Read, Expanded, Payload}
-use Rattle.quic_exchange.specs.declared.sent.Sent.{Sent}
+use Rattle.quic_exchange.specs.Sent.{Sent}
 use Rattle.quic_exchange.specs.Payloads.{is_control, noted_of}
 use Rattle.quic_exchange.specs.Replies.{Answer}
 use Rattle.quic_exchange.specs.State.{PairState, peer, the_end}
@@ -115,6 +118,51 @@ AsksLarger _ f = Unit {0}
 
 -- ---- payloads
 
+-- a control frame that an endpoint is to send: a RESET_STREAM of a stream with its code, a STOP_SENDING of one, MAX_DATA,
+-- a MAX_STREAM_DATA of a stream, a MAX_STREAMS of a direction, DATA_BLOCKED, or a STREAM_DATA_BLOCKED of a stream
+pub data ControlEntry : Type 0 where
+  ResetStream : (id code : ℕ) → ControlEntry
+  StopSending : (id code : ℕ) → ControlEntry
+  MaxData : ControlEntry
+  MaxStreamData : (id : ℕ) → ControlEntry
+  MaxStreams : Dir → ControlEntry
+  DataBlocked : ControlEntry
+  StreamDataBlocked : (id : ℕ) → ControlEntry
+
+-- it is pending
+abbrev pub IsPending : Pending → ControlEntry → Type 0
+IsPending p (ResetStream id code) = IsOneOf (id, code) p.reset_stream
+IsPending p (StopSending id code) = IsOneOf (record { id = id; error_code = code }) p.stop_sending
+IsPending p MaxData = p.max_data ≡ true
+IsPending p (MaxStreamData id) = p.max_stream_data id ≡ true
+IsPending p (MaxStreams dir) = max_streams_in p dir ≡ true
+IsPending p DataBlocked = p.data_blocked ≡ true
+IsPending p (StreamDataBlocked id) = p.stream_data_blocked id ≡ true
+
+-- the frame that it is sent as, with the limits that are enforced. It is of no use any more if the send side of its stream is
+-- freed, if no more data may arrive on the stream or its reader stopped it, or if the limit was raised that blocked
+abbrev pub frame_of : World → ControlEntry → Option Frame
+frame_of u (ResetStream id code) = reset_frame id code (u.out.halves id)
+frame_of u (StopSending id code) = Some (frames.StopSending (record { id = id; error_code = code }))
+frame_of u MaxData = Some (frames.MaxData (max_data_of u.credit))
+frame_of u (MaxStreamData id) = window_frame u.window id (u.receive id)
+frame_of u (MaxStreams dir) = Some (frames.MaxStreams dir (remote_of u dir).max_remote)
+frame_of u DataBlocked = data_blocked_frame u
+frame_of u (StreamDataBlocked id) = stream_blocked_frame id (u.out.halves id)
+
+-- a frame is one of those that bytes spell, if there is one
+abbrev pub IsSpelledIn : List ℕ → Option Frame → Type 0
+IsSpelledIn bytes None = Unit {0}
+IsSpelledIn bytes (Some frame) = (all : List Frame) × AreFrames bytes all × IsOneOf frame all
+
+-- each control frame that was pending is so still, is in the payload, or is of no use any more
+abbrev pub LosesNone : EndState → List ℕ → EndState → Type 0
+LosesNone e bytes f = (entry : ControlEntry) → IsPending e.pending entry → IsPending f.pending entry ⊎ IsSpelledIn bytes (frame_of e.streams entry)
+
+abbrev pub LosesNoneIf : EndState → Answer → EndState → Type 0
+LosesNoneIf e (Ok (Payload number bytes)) f = LosesNone e bytes.items f
+LosesNoneIf e _ f = Unit {0}
+
 -- these bytes are spellings of frames beside STREAM, or of STREAM frames
 pub record AreSpellingsOf (control : Bool) (bytes : List ℕ) : Type 0 where
   pub all : List Frame
@@ -157,6 +205,11 @@ abbrev pub AsksAllAgain : List Sent → Answer → EndState → Type 0
 AsksAllAgain sent (Ok reply) f = (number : ℕ) (s : Sent) (rest : SentPayload) → slice_get sent number ≡ Some s → s.unsettled.rest ≡ Some rest → AsksAllOf (noted_in rest.control) f.pending
 AsksAllAgain sent (Err error) f = Unit {0}
 
+-- all that the client sent on its streams is to be sent again, once the server asked it to begin again
+abbrev pub SendsAllAgain : World → Answer → World → Type 0
+SendsAllAgain u (Ok reply) v = SendsAgain u (Ok tt) v
+SendsAllAgain u (Err error) v = Unit {0}
+
 -- something holds of the writer of a payload, if a step on it was served
 abbrev pub OnWriter : PairState → ℕ → (Sent → Type 0) → Answer → Type 0
 OnWriter old number Holds (Ok reply) = (payload : HasPayload old number) → Holds payload.sent
@@ -175,9 +228,9 @@ AsksFor old (steps.Read who id ordered most times) reply new = AsksAfterRead id 
 AsksFor old (steps.ReceivedReset who id) reply new = AsksStreamsIf reply (the_end new who)
 AsksFor old (steps.SetReceiveWindow who window) reply new = AsksLarger reply (the_end new who)
 AsksFor old (steps.SetMaxConcurrent who dir count) reply new = AsksStreamsIf reply (the_end new who)
-AsksFor old (steps.Emit who most fair) reply new = IsFullIf most reply (the_end new who)
+AsksFor old (steps.Emit who most fair) reply new = IsFullIf most reply (the_end new who) × LosesNoneIf (the_end old who) reply (the_end new who)
 AsksFor old (steps.Deliver number index) reply new = OnWriter old number (λ s. AsksAfterFrame (the_end old (peer s.writer)) (the_end new (peer s.writer))) reply
 AsksFor old (steps.Lose number) reply new = OnWriter old number (λ s. AsksAgain s.text.bytes (the_end new s.writer)) reply
 AsksFor old (steps.Ack number) reply new = OnWriter old number (λ s. AsksStreams (the_end new s.writer)) reply
-AsksFor old steps.Retry reply new = AsksAllAgain old.sent reply new.a
+AsksFor old steps.Retry reply new = AsksAllAgain old.sent reply new.a × SendsAllAgain old.a.streams reply new.a.streams
 AsksFor old _ reply new = Unit {0}

@@ -2,7 +2,7 @@
 use Rattle.std.specs.Prelude.{◌≡◌, ◌⊎◌, ◌≤◌, ℕ, true, false, List, [], ◌∷◌, Option, Some, None, length, slice_get}
 use Rattle.quic_retransmits.specs.Pending.{Pending, merged_if, thin_view}
 use Rattle.quic_streams.specs.declared.settling.SentPayload.{SentPayload}
-use Rattle.quic_exchange.specs.declared.sent.Sent.{Sent}
+use Rattle.quic_exchange.specs.Sent.{Sent}
 
 -- one of them: of what it was nothing is kept
 pub record IsGone (s : Sent) : Type 0 where

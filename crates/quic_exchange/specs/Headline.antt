@@ -8,7 +8,7 @@ use Rattle.quic_history.specs.History.{ReadChunk, slices, EachOnce}
 use Rattle.quic_link.specs.Endpoints.{IsOneOf}
 use Rattle.quic_link.specs.Promises.{given_in_order}
 use Rattle.quic_steps.specs.declared.steps.End.{End}
-use Rattle.quic_exchange.specs.declared.sent.Sent.{Sent}
+use Rattle.quic_exchange.specs.Sent.{Sent}
 use Rattle.quic_exchange.specs.Payloads.{IsFrameAt}
 use Rattle.quic_exchange.specs.History.{Past, Flow, FramePlace}
 

@@ -7,6 +7,7 @@ pub mod Headline
 pub mod History
 pub mod Honest
 pub mod Law
+pub mod Network
 pub mod Payloads
 pub mod Places
 pub mod Readable
@@ -14,6 +15,7 @@ pub mod Refused
 pub mod Replies
 pub mod Reports
 pub mod Runs
+pub mod Sent
 pub mod Settling
 pub mod State
 pub mod Steps

@@ -6,7 +6,7 @@ use Rattle.quic_receiving.specs.declared.transmit.ShouldTransmit.{ShouldTransmit
 use Rattle.quic_endpoint.specs.Receiving.{data_length}
 use Rattle.quic_steps.specs.declared.steps.PairError.{PairError}
 use Rattle.quic_steps.specs.declared.steps.PairError.TheVariants as refusals
-use Rattle.quic_exchange.specs.declared.sent.Sent.{Sent}
+use Rattle.quic_exchange.specs.Sent.{Sent}
 use Rattle.quic_exchange.specs.declared.places.HandedFrame.{HandedFrame}
 use Rattle.quic_exchange.specs.Payloads.{SentText, IsFrameAt, LacksFrame, IsReadyToMark, IsMarked}
 use Rattle.quic_exchange.specs.Gone.{IsNoPayload}

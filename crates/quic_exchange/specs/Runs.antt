@@ -2,7 +2,7 @@
 use Rattle.std.specs.Prelude.{[], ◌∷◌, ◌++◌, ◌≡◌, List, Option}
 use Rattle.quic_steps.specs.declared.steps.Step.{Step}
 use Rattle.quic_exchange.specs.declared.early.EarlyLimits.{EarlyLimits}
-use Rattle.quic_exchange.specs.declared.sent.Sent.{Sent}
+use Rattle.quic_exchange.specs.Sent.{Sent}
 use Rattle.quic_exchange.specs.Replies.{Answer}
 use Rattle.quic_exchange.specs.State.{PairState}
 use Rattle.quic_exchange.specs.Steps.{Next}
@@ -12,6 +12,7 @@ use Rattle.quic_exchange.specs.Headline.{Headline}
 use Rattle.quic_exchange.specs.Honest.{AreHonest}
 use Rattle.quic_exchange.specs.Refused.{IsRefused}
 use Rattle.quic_exchange.specs.Due.{AsksFor}
+use Rattle.quic_exchange.specs.Network.{ChangesNetwork}
 use Rattle.quic_exchange.specs.Tale.{Sendings, Told, TellsOfPair}
 use Rattle.quic_exchange.specs.Tale as tale
 use Rattle.quic_exchange.specs.Withheld.{NotWithheld}
@@ -56,6 +57,10 @@ pub record IsTrueOf (p : Past) (v : PairState) : Type 0 where
 -- a refused step left the pair as it was
 abbrev pub StaysIfRefused : History → PairState → Step → Answer → PairState → Type 0
 StaysIfRefused before between step reply after = IsRefused reply → after ≡ between
+
+-- a step changed the network as it may
+abbrev pub NetworkOf : History → PairState → Step → Answer → PairState → Type 0
+NetworkOf before between step reply after = ChangesNetwork between step reply after
 
 -- a step withheld nothing that was due
 abbrev pub AsksOf : History → PairState → Step → Answer → PairState → Type 0

@@ -22,7 +22,7 @@ use Rattle.quic_steps.specs.declared.steps.Last.{Last}
 use Rattle.quic_steps.specs.declared.steps.Last.TheVariants as last
 use Rattle.quic_steps.specs.declared.steps.Reply.TheVariants.{Nothing, Closed, Illegal, Read, Payload, Fault}
 use Rattle.quic_steps.specs.declared.steps.PairError.TheVariants.{OutOfMemory as NoMemory}
-use Rattle.quic_exchange.specs.declared.sent.Sent.{Sent}
+use Rattle.quic_exchange.specs.Sent.{Sent}
 use Rattle.quic_exchange.specs.declared.phase.Phase.{Phase}
 use Rattle.quic_exchange.specs.declared.phase.Phase.TheVariants as phase
 use Rattle.quic_exchange.specs.declared.phase.Going.{Going}
@@ -226,6 +226,10 @@ pub record IsCutOff (old : PairState) (taken : History) (new : PairState) : Type
   pub here : Phase
   pub sought : IsSoughtFor between.sent at here
   pub last : ((new ≡ between) × (taken ≡ before)) ⊎ ((reply : Answer) × NextTaken between (step_at here) reply new × (going_of reply ≡ None) × (taken ≡ before ++ (step_at here, reply) ∷ []))
+
+-- memory ran out in the last step, by its reply, or for the list of steps: then that has no room for one more
+abbrev pub IsOutOfMemory : History → ℕ → Type 0
+IsOutOfMemory taken room = (room ≤ length taken) ⊎ ((before : History) × (step : Step) × (reply : Answer) × (taken ≡ before ++ (step, reply) ∷ []) × (going_of reply ≡ None))
 
 -- it was not decided whether the server takes what the client sends early, and no step was taken
 pub record IsUndecided (old : PairState) (taken : History) (new : PairState) : Type 0 where

@@ -32,7 +32,7 @@ use Rattle.quic_exchange.specs.declared.unsettled.Report.TheVariants.{Lost, Ackn
 use Rattle.quic_exchange.specs.Unsettled.{may_report, unsettled_after}
 use Rattle.quic_exchange.specs.Reports.{MayServe, RefusesReport}
 use Rattle.quic_exchange.specs.declared.early.EarlyLimits.{EarlyLimits}
-use Rattle.quic_exchange.specs.declared.sent.Sent.{Sent}
+use Rattle.quic_exchange.specs.Sent.{Sent}
 use Rattle.quic_exchange.specs.Gone.{IsNoPayload, HaveLeft, with_all_noted}
 use Rattle.quic_exchange.specs.State.{PairState, peer, the_end, with_end, with_sent, OnEnd}
 use Rattle.quic_exchange.specs.Calls.{Opens, Accepts, OnGiven, Writes, WritesChunksOrNone, Finishes, ResetsOn, StopsOn, SetsPriorityOn, AsksReset, ReadsOn, SetsSendWindow, SetsReceiveWindow, SetsMaxConcurrent, Polls}

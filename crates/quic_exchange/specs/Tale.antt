@@ -26,9 +26,8 @@ use Rattle.quic_steps.specs.declared.steps.Step.{Step}
 use Rattle.quic_steps.specs.declared.steps.Step.TheVariants as steps
 use Rattle.quic_steps.specs.declared.steps.Reply.TheVariants.{Done, DoneTransmit, Id, Wrote, WroteChunks, Payload}
 use Rattle.quic_steps.specs.declared.steps.PairError.TheVariants.{OutOfMemory as NoMemory}
-use Rattle.quic_exchange.specs.declared.sent.Sent.{Sent}
+use Rattle.quic_exchange.specs.Sent.{Sent, Unsettled}
 use Rattle.quic_exchange.specs.Payloads.{IsFrameAt, metas_in, codes_in}
-use Rattle.quic_exchange.specs.declared.unsettled.Unsettled.{Unsettled}
 use Rattle.quic_exchange.specs.Replies.{Answer}
 use Rattle.quic_exchange.specs.State.{peer}
 use Rattle.quic_exchange.specs.From.{Beginning, limits_first, limits_of_a, limits_of_b}

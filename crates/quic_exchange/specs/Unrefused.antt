@@ -1,16 +1,19 @@
 -- No frame that was sent is refused, but for too many pieces.
-use Rattle.std.specs.Prelude.{ℕ, ◌≡◌, ◌<◌, ◌+◌, false, List, [], ◌∷◌, length, slice_get, Some, Ok}
+use Rattle.std.specs.Prelude.{ℕ, ◌≡◌, ◌<◌, ◌+◌, false, List, [], ◌∷◌, length, slice_get, None, Some, Ok}
+use Rattle.quic_wire.specs.declared.frame.Frame.{Frame}
 use Rattle.quic_wire.specs.declared.frame.Stream.{Stream}
+use Rattle.quic_wire.specs.Frames.{AreFrames}
 use Rattle.quic_wire.specs.declared.error.TransportError.{TransportError}
 use Rattle.quic_wire.specs.declared.error.ReceiveError.{ReceiveError}
 use Rattle.quic_wire.specs.declared.error.ReceiveError.TheVariants as receive_error
 use Rattle.quic_wire.specs.Codes.{INTERNAL_ERROR}
-use Rattle.quic_link.specs.Promises.{IsCrowded}
+use Rattle.quic_link.specs.Endpoints.{IsOneOf}
+use Rattle.quic_link.specs.Promises.{IsCrowded, IsWelcome}
 use Rattle.quic_steps.specs.declared.steps.End.{End}
 use Rattle.quic_steps.specs.declared.steps.Step.{Step}
 use Rattle.quic_steps.specs.declared.steps.Step.TheVariants as steps
 use Rattle.quic_steps.specs.declared.steps.Reply.TheVariants.{Fault}
-use Rattle.quic_exchange.specs.declared.sent.Sent.{Sent}
+use Rattle.quic_exchange.specs.Sent.{Sent}
 use Rattle.quic_exchange.specs.Replies.{Answer}
 use Rattle.quic_exchange.specs.State.{PairState, peer, the_end}
 use Rattle.quic_exchange.specs.History.{Past, FramePlace}
@@ -55,3 +58,14 @@ AnswersDelivery p sent at _ after = Unit {0}
 abbrev pub RefusesNoFrame : Past → List Sent → Step → Answer → PairState → Type 0
 RefusesNoFrame p sent (steps.Deliver number index) reply after = AnswersDelivery p sent (number, index) reply after
 RefusesNoFrame p sent _ reply after = Unit {0}
+
+-- the bytes of a payload spell its frames, and the other end takes each of them: it knows the stream, its writer may send the frame on
+-- it, and no limit is passed (RFC 9000 sections 4.1, 4.5, 4.6, 19.4, 19.5, 19.8, 19.10, 19.11 and 19.13)
+pub record IsWelcomePayload (v : PairState) (s : Sent) : Type 0 where
+  pub all : List Frame
+  pub spelled : AreFrames s.text.bytes all
+  pub welcome : (frame : Frame) → IsOneOf frame all → IsWelcome (the_end v (peer s.writer)).streams frame
+
+-- so it is with every payload, once it is decided what becomes of what the client sent early
+abbrev pub AreAllWelcome : PairState → Type 0
+AreAllWelcome v = v.waits ≡ None → (number : ℕ) (s : Sent) → slice_get v.sent number ≡ Some s → IsWelcomePayload v s

@@ -3,7 +3,7 @@ use Rattle.std.specs.Prelude.{Bool, true, false, ◌&&◌, ◌==◌, length, Opt
 use Rattle.quic_streams.specs.declared.settling.SentPayload.{SentPayload}
 use Rattle.quic_streams.specs.Settling.{resets_of}
 use Rattle.quic_streams.specs.Sent.{sent_view}
-use Rattle.quic_exchange.specs.declared.unsettled.Unsettled.{Unsettled}
+use Rattle.quic_exchange.specs.Sent.{Unsettled}
 use Rattle.quic_exchange.specs.declared.unsettled.Report.{Report}
 use Rattle.quic_exchange.specs.declared.unsettled.Report.TheVariants.{Lost, Acknowledged}
 

@@ -7,7 +7,6 @@ ghost use Rattle.quic_exchange.specs.Gone.{HaveLeft, with_noted, with_all_noted}
 ghost use Rattle.quic_exchange.specs.Steps.{needs_decision, is_server};
 
 use crate::sent::Sent;
-use crate::unsettled::Unsettled;
 use quic_steps::{End, Step};
 use quic_streams::{PeerLimits, Retransmits};
 use quic_values::OutOfMemory;
@@ -78,10 +77,10 @@ pub fn needs_decision(step: &Step) -> bool
 }
 
 // What was noted of a payload is joined to what is pending, if something of it is unreported.
-fn join_noted(pending: &mut Retransmits, unsettled: &Unsettled) -> Result<(), OutOfMemory>
-    ensures { OnOk result (pending_view pending.new ≡ with_noted (pending_view pending.old) unsettled.now.rest) }
+fn join_noted(pending: &mut Retransmits, payload: &Sent) -> Result<(), OutOfMemory>
+    ensures { OnOk result (pending_view pending.new ≡ with_noted (pending_view pending.old) payload.now.unsettled.rest) }
 {
-    match unsettled.noted() {
+    match payload.unsettled.noted() {
         None => Ok(()),
         Some(noted) => match pending.merge(noted.clone()?) {
             Ok(()) => Ok(()),
@@ -96,7 +95,7 @@ pub fn with_all_noted(pending: &Retransmits, sent: &[Sent]) -> Result<Retransmit
 {
     let mut all = pending.clone()?;
     for index in 0..sent.len() {
-        join_noted(&mut all, &sent[index].unsettled)?;
+        join_noted(&mut all, &sent[index])?;
     }
     Ok(all)
 }

@@ -84,7 +84,8 @@ pub fn mark_if(
     ensures { MarksIf answer.now sent.old.items payload index sent.new.items }
 {
     if answer.is_ok() && payload < sent.len() {
-        sent[payload].text.accept(index, marks);
+        let whole = &mut sent[payload];
+        whole.text.accept(index, marks);
     }
 }
 
@@ -137,6 +138,7 @@ fn keep_back(sent: &mut Vec<Sent>, payload: usize, kind: Report, back: SentPaylo
     ensures { KeepsBack sent.old.items payload kind (Err back) sent.new.items }
 {
     if payload < sent.len() {
-        sent[payload].unsettled.keep(kind, back);
+        let whole = &mut sent[payload];
+        whole.unsettled.keep(kind, back);
     }
 }

@@ -27,6 +27,18 @@ pub struct Sent {
     pub gone: bool,
 }
 
+impl Model for Sent {
+    ghost use Rattle.quic_exchange.specs.Sent.{Sent as SentValue};
+    ghost use Rattle.quic_streams.specs.contracts.settling.SentPayload as payload;
+    ghost use Rattle.std.specs.Coded.{codes};
+
+    ghost Value = { SentValue };
+
+    ghost coded = { Prim.hlevel (codes, payload.the_row.coded) };
+
+    ghost view = { λ s. record { writer = s.writer; unsettled = s.unsettled; text = s.text; gone = s.gone } };
+}
+
 impl Sent {
     pub fn new(alloc: Global, writer: End, payload: Payload) -> Self
         ensures { result ≡ record { writer = writer; unsettled = record { begun = None; rest = Some payload.sent }; text = record { bytes = payload.bytes.items; accepted = [] }; gone = false } }

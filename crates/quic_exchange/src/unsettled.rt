@@ -8,6 +8,7 @@ ghost use Rattle.quic_exchange.specs.Unsettled.{needs_acceptance, goes_on, may_r
 
 use quic_retransmits::{Retransmits, ThinRetransmits};
 use quic_streams::SentPayload;
+use std::marker::Model;
 
 /// What becomes of a payload.
 #[derive(Clone, Copy, Debug)]
@@ -47,6 +48,18 @@ pub struct Unsettled {
     pub begun: Option<Report>,
     /// What is still to be reported, unless all was.
     pub rest: Option<SentPayload>,
+}
+
+impl Model for Unsettled {
+    ghost use Rattle.quic_exchange.specs.Sent.{Unsettled as UnsettledValue};
+    ghost use Rattle.quic_streams.specs.contracts.settling.SentPayload as payload;
+    ghost use Rattle.std.specs.Coded.{codes};
+
+    ghost Value = { UnsettledValue };
+
+    ghost coded = { Prim.hlevel (codes, payload.the_row.coded) };
+
+    ghost view = { λ u. record { begun = u.begun; rest = u.rest } };
 }
 
 impl Unsettled {

@@ -19,6 +19,7 @@ pub mod GivenIds
 pub mod Opened
 pub mod Opens
 pub mod Counts
+pub mod Directed
 pub mod Joint
 pub mod Welcome
 pub mod Modes

@@ -27,7 +27,8 @@ use Rattle.quic_history.proofs.Totals.{once_with, total_with, by_cases, same}
 use Rattle.quic_history.proofs.Traces.{streams-once, quiet, itself}
 use Rattle.quic_link.specs.Endpoints.{LinkedEnd, IsOneOf, sent_on, came_on}
 use Rattle.quic_link.specs.Truths.{IsFrameTrue, IsTrueData, amount_on}
-use Rattle.quic_link.specs.Promises.{IsWelcome, AreWelcome, IsCrowded, RefusesNone}
+use Rattle.quic_link.specs.Promises.{IsWelcome, AreWelcome, TakesBlocked, IsCrowded, RefusesNone}
+use Rattle.quic_link.proofs.Directed.{StopsBoth, MayBlock, BlocksOwn}
 use Rattle.quic_link.proofs.Sums.{total-most}
 use Rattle.quic_link.proofs.Rooms.{amount, sum-written}
 use Rattle.quic_link.proofs.Opens.{OpenBy, OpenFrame, SendsOn, ReceivesOn, own-local, local-other, opened-is}
@@ -218,23 +219,36 @@ module _ (x y : LinkedEnd) (s : Agrees x y) (r : Agrees y x) where
       (fit h.size h.end final (omega arith) (λ k i. size_written id h t k i ∙ sym e))
       (fits_limit id final h t (omega arith))
 
-  -- every frame is welcome
-  welcome : (g : Frame) → IsFrameTrue x g → OpenFrame x y g → IsWelcome y.world g
-  welcome (frames.Stream g) t o =
-      let known = sends_known g.id o in
-      (known, λ h e n. taken g t h (told g.id h e known))
-  welcome (frames.ResetStream g) t o =
-      let known = sends_known g.id o in
-      (known, λ h e. reset_taken g.id g.final_offset t.1 h (told g.id h e known))
-  welcome (frames.MaxStreamData id limit) t o = receives_known id o
-  welcome (frames.MaxStreams d count) t o = few_streams d count t
-    where
-      few_streams : (d : Dir) (count : ℕ) → count ≤ (remote_of x.world d).max_remote → count ≤ 2 ^ 60
-      few_streams d count l = let m = s.few d in omega arith
-  welcome _ t o = tt
+  takes_blocked : (id : ℕ) → MayBlock x id → TakesBlocked y.world id
+  takes_blocked id m = record {
+    both_ways = λ own. m.both_ways (not_true (is_local x.made.side id) (sym (whose id) ∙ own));
+    within = λ theirs.
+        let mine = not_false (is_local x.made.side id) (sym (whose id) ∙ theirs) in
+        let i = m.opened mine in
+        let n = opened_most (dir_of id) in
+        omega (arith, i, n);
+  }
 
-  pub all-welcome : AreWelcome x y
-  all-welcome g h = welcome g (s.truth g h) (s.ids.frames_open g h)
+  -- every frame is welcome
+  module _ (stops : StopsBoth x) (blocks : BlocksOwn x) where
+    welcome : (g : Frame) → IsOneOf g x.wrote → IsFrameTrue x g → OpenFrame x y g → IsWelcome y.world g
+    welcome (frames.Stream g) h t o =
+        let known = sends_known g.id o in
+        (known, λ h e n. taken g t h (told g.id h e known))
+    welcome (frames.ResetStream g) h t o =
+        let known = sends_known g.id o in
+        (known, λ h e. reset_taken g.id g.final_offset t.1 h (told g.id h e known))
+    welcome (frames.StopSending g) h t o = receives_known g.id (record { opened = o; both_ways = stops g.id g.error_code t })
+    welcome (frames.MaxStreamData id limit) h t o = receives_known id o
+    welcome (frames.MaxStreams d count) h t o = few_streams d count t
+      where
+        few_streams : (d : Dir) (count : ℕ) → count ≤ (remote_of x.world d).max_remote → count ≤ 2 ^ 60
+        few_streams d count l = let m = s.few d in omega arith
+    welcome (frames.StreamDataBlocked id limit) h t o = takes_blocked id (blocks id limit h)
+    welcome _ h t o = tt
+
+    pub all-welcome : AreWelcome x y
+    all-welcome g h = welcome g h (s.truth g h) (s.ids.frames_open g h)
 
 -- ---- what calls are answered
 

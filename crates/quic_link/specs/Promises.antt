@@ -12,7 +12,9 @@ use Rattle.quic_assembler.specs.Reassembly.{Holds, IsHeld, piece_count}
 use Rattle.quic_receiving.specs.Data.{Carries, is_in_slices, IsAllGiven}
 use Rattle.quic_receiving.specs.Half.{Half, Taken, verdict, reset_verdict, is_all}
 use Rattle.quic_receiving.specs.declared.transmit.ShouldTransmit.{ShouldTransmit}
-use Rattle.quic_history.specs.World.{World, id_refusal}
+use Rattle.quic_values.specs.Ids.{dir_of, index_of}
+use Rattle.quic_values.specs.declared.ids.Dir.TheVariants.{Bi}
+use Rattle.quic_history.specs.World.{World, is_own, remote_of, id_refusal}
 use Rattle.quic_history.specs.Sends.{sending_refusal}
 use Rattle.quic_receiving.specs.declared.errors.ReadError.TheVariants as read_error
 use Rattle.quic_receiving.specs.declared.errors.ReadableError.TheVariants as readable_error
@@ -51,15 +53,23 @@ IsTrueEvent x y (stream_event.Finished id) = CameWhole x y id
 IsTrueEvent x y (stream_event.Stopped id code) = WasStoppedWith y.calls id code
 IsTrueEvent x y _ = Unit {0}
 
--- an end does not refuse a frame: it knows the stream, and its half, where one is held, takes the frame (RFC 9000
--- sections 4.1, 4.5, 4.6, 19.8, 19.4, 19.10 and 19.11)
+-- an end takes STREAM_DATA_BLOCKED of a stream: one that it opened goes both ways (section 19.13), and one of its peer is within the
+-- limit that it enforces (section 4.6)
+pub record TakesBlocked (w : World) (id : ℕ) : Type 0 where
+  pub both_ways : is_own w id ≡ true → dir_of id ≡ Bi
+  pub within : is_own w id ≡ false → index_of id < (remote_of w (dir_of id)).max_remote
+
+-- an end does not refuse a frame: it knows the stream, on which the peer may send the frame, and its half, where one is held, takes
+-- the frame (RFC 9000 sections 4.1, 4.5, 4.6, 19.8, 19.4, 19.5, 19.10, 19.11 and 19.13)
 abbrev pub IsWelcome : World → Frame → Type 0
 IsWelcome w (frames.Stream s) = (id_refusal w s.id ≡ None)
     × ((h : Half) → w.receive s.id ≡ Some h → h.reset ≡ None → verdict h s.offset (length s.bytes) s.fin w.credit.data_recvd w.credit.local_max_data ≡ Taken)
 IsWelcome w (frames.ResetStream f) = (id_refusal w f.id ≡ None)
     × ((h : Half) → w.receive f.id ≡ Some h → reset_verdict h f.final_offset w.credit.data_recvd w.credit.local_max_data ≡ Taken)
+IsWelcome w (frames.StopSending f) = sending_refusal w f.id ≡ None
 IsWelcome w (frames.MaxStreamData id limit) = sending_refusal w id ≡ None
 IsWelcome w (frames.MaxStreams d count) = count ≤ 2 ^ 60
+IsWelcome w (frames.StreamDataBlocked id limit) = TakesBlocked w id
 IsWelcome w _ = Unit {0}
 
 -- no frame that x ever wrote is refused by y now

@@ -18,12 +18,13 @@ ghost use Rattle.quic_link.specs.Endpoints.{limits_of};
 ghost use Rattle.quic_exchange.specs.From.{Beginning, PairFrom, made_of, end_begun, at_once, waits_first};
 ghost use Rattle.quic_exchange.specs.History.{History, past_of, waits_from};
 ghost use Rattle.quic_exchange.specs.Headline.{Headline};
-ghost use Rattle.quic_exchange.specs.Runs.{TakesSteps, StepByStep, Behind, BehindEarly, Around, Throughout, IsTrueOf, StaysIfRefused, AsksOf, WithholdsNone, PermitsAll};
-ghost use Rattle.quic_exchange.specs.Unrefused.{RefusesNoFrame};
+ghost use Rattle.quic_exchange.specs.Runs.{TakesSteps, StepByStep, Behind, BehindEarly, Around, Throughout, IsTrueOf, StaysIfRefused, NetworkOf, AsksOf, WithholdsNone, PermitsAll};
+ghost use Rattle.quic_exchange.specs.Unrefused.{RefusesNoFrame, AreAllWelcome};
 ghost use Rattle.quic_exchange.specs.Readable.{WithholdsNothing};
 ghost use Rattle.quic_exchange.specs.Law.{Drains};
 ghost use Rattle.quic_exchange.specs.Due.{AsksFor};
 ghost use Rattle.quic_exchange.specs.Honest.{AreHonest};
+ghost use Rattle.quic_exchange.specs.Network.{ChangesNetwork, IsNetworkOf};
 ghost use Rattle.quic_exchange.specs.Refused.{IsRefused, IsRefusedSo};
 
 use crate::calls;
@@ -476,6 +477,9 @@ impl Pair {
         ensures honest { (s : Beginning) (h : History) → PairFrom s h (pair_view self.old) → AreHonest (past_of (h ++ (step, result) ∷ [])) (pair_view self.new) }
         ensures refused { (s : Beginning) (h : History) → PairFrom s h (pair_view self.old) → IsRefusedSo (waits_from (waits_first s) h) (past_of h) (pair_view self.old).sent step result }
         ensures unchanged { IsRefused result → pair_view self.new ≡ pair_view self.old }
+        ensures network { ChangesNetwork (pair_view self.old) step result (pair_view self.new) }
+        ensures returned { (s : Beginning) (h : History) → PairFrom s h (pair_view self.old) → IsNetworkOf (h ++ (step, result) ∷ []) (pair_view self.new).sent }
+        ensures welcome { (s : Beginning) (h : History) → PairFrom s h (pair_view self.old) → AreAllWelcome (pair_view self.new) }
         ensures unrefused { (s : Beginning) (h : History) → PairFrom s h (pair_view self.old) → RefusesNoFrame (past_of h) (pair_view self.old).sent step result (pair_view self.new) }
         ensures readable { (s : Beginning) (h : History) → PairFrom s h (pair_view self.old) → WithholdsNothing (past_of h) (pair_view self.old).sent step result }
         ensures drained { (s : Beginning) (h : History) → PairFrom s h (pair_view self.old) → Drains (past_of h) (pair_view self.old).sent step result }
@@ -498,6 +502,9 @@ impl Pair {
         ensures refused { IfOk result (λ replies. (s : Beginning) (h : History) → PairFrom s h (pair_view self.old) → StepByStep (BehindEarly IsRefusedSo s h) (pair_view self.old) (zip steps.items replies.items) (pair_view self.new)) }
         ensures throughout { IfOk result (λ replies. (s : Beginning) (h : History) → PairFrom s h (pair_view self.old) → StepByStep (Throughout IsTrueOf h) (pair_view self.old) (zip steps.items replies.items) (pair_view self.new)) }
         ensures unchanged { IfOk result (λ replies. StepByStep StaysIfRefused (pair_view self.old) (zip steps.items replies.items) (pair_view self.new)) }
+        ensures network { IfOk result (λ replies. StepByStep NetworkOf (pair_view self.old) (zip steps.items replies.items) (pair_view self.new)) }
+        ensures returned { IfOk result (λ replies. (s : Beginning) (h : History) → PairFrom s h (pair_view self.old) → IsNetworkOf (h ++ zip steps.items replies.items) (pair_view self.new).sent) }
+        ensures welcome { IfOk result (λ replies. (s : Beginning) (h : History) → PairFrom s h (pair_view self.old) → AreAllWelcome (pair_view self.new)) }
         ensures unrefused { IfOk result (λ replies. (s : Beginning) (h : History) → PairFrom s h (pair_view self.old) → StepByStep (Around RefusesNoFrame h) (pair_view self.old) (zip steps.items replies.items) (pair_view self.new)) }
         ensures readable { IfOk result (λ replies. (s : Beginning) (h : History) → PairFrom s h (pair_view self.old) → StepByStep (Behind WithholdsNothing h) (pair_view self.old) (zip steps.items replies.items) (pair_view self.new)) }
         ensures drained { IfOk result (λ replies. (s : Beginning) (h : History) → PairFrom s h (pair_view self.old) → StepByStep (Behind Drains h) (pair_view self.old) (zip steps.items replies.items) (pair_view self.new)) }
@@ -525,7 +532,8 @@ impl Pair {
         if is_no_payload(&self.sent, number) {
             return None;
         }
-        Some(self.sent[number].text.bytes())
+        let whole = &self.sent[number];
+        Some(whole.text.bytes())
     }
 
     /// The streams of an end.

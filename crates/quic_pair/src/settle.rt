@@ -3,17 +3,18 @@
 ghost use Rattle.std.specs.Prelude.{◌≡◌, is_some, true, ◌⊎◌, ◌≤◌, ◌<◌, IfSome, IfNone, IfErr, None, Err, OnOk, OnErr, List, [], ◌∷◌, length, vec_len, vec_capacity, ◌++◌};
 ghost use Rattle.quic_pair.specs.Shown.{pair_view};
 ghost use Rattle.quic_exchange.specs.Steps.{NextTaken};
-ghost use Rattle.quic_exchange.specs.Runs.{TakesSteps, StepsBy, StepByStep, Behind, BehindEarly, Around, Throughout, IsTrueOf, StaysIfRefused, AsksOf, WithholdsNone, sendings_of};
+ghost use Rattle.quic_exchange.specs.Runs.{TakesSteps, StepsBy, StepByStep, Behind, BehindEarly, Around, Throughout, IsTrueOf, StaysIfRefused, NetworkOf, AsksOf, WithholdsNone, sendings_of};
 ghost use Rattle.quic_exchange.specs.History.{History, past_of};
 ghost use Rattle.quic_exchange.specs.From.{Beginning, PairFrom};
 ghost use Rattle.quic_exchange.specs.Tale.{Told};
 ghost use Rattle.quic_exchange.specs.Headline.{Headline};
 ghost use Rattle.quic_exchange.specs.Honest.{AreHonest};
+ghost use Rattle.quic_exchange.specs.Network.{IsNetworkOf};
 ghost use Rattle.quic_exchange.specs.Refused.{IsRefusedSo};
-ghost use Rattle.quic_exchange.specs.Unrefused.{RefusesNoFrame};
+ghost use Rattle.quic_exchange.specs.Unrefused.{RefusesNoFrame, AreAllWelcome};
 ghost use Rattle.quic_exchange.specs.Readable.{WithholdsNothing};
 ghost use Rattle.quic_exchange.specs.Law.{Drains};
-ghost use Rattle.quic_exchange.specs.Settling.{AreSettledIn, IsSoughtFor, IsSettledAt, is_quiet_at, IsSettling, IsCutOff, IsUndecided, TakesPhaseOrNone, IsAllReported, AreIdle, LeavesNoRest};
+ghost use Rattle.quic_exchange.specs.Settling.{AreSettledIn, IsSoughtFor, IsSettledAt, is_quiet_at, IsSettling, IsCutOff, IsOutOfMemory, IsUndecided, TakesPhaseOrNone, IsAllReported, AreIdle, LeavesNoRest};
 ghost use Rattle.quic_exchange.specs.Completed.{HaveArrived, HaveBeenRead, HaveBeenTold, AreAllAcked, AreStopsTold};
 
 use crate::pair::Pair;
@@ -42,6 +43,9 @@ impl Pair {
         ensures refused { (s : Beginning) (h : History) → PairFrom s h (pair_view self.old) → StepByStep (BehindEarly IsRefusedSo s h) (pair_view self.old) result.0.items (pair_view self.new) }
         ensures throughout { (s : Beginning) (h : History) → PairFrom s h (pair_view self.old) → StepByStep (Throughout IsTrueOf h) (pair_view self.old) result.0.items (pair_view self.new) }
         ensures unchanged { StepByStep StaysIfRefused (pair_view self.old) result.0.items (pair_view self.new) }
+        ensures network { StepByStep NetworkOf (pair_view self.old) result.0.items (pair_view self.new) }
+        ensures returned { (s : Beginning) (h : History) → PairFrom s h (pair_view self.old) → IsNetworkOf (h ++ result.0.items) (pair_view self.new).sent }
+        ensures welcome { (s : Beginning) (h : History) → PairFrom s h (pair_view self.old) → AreAllWelcome (pair_view self.new) }
         ensures unrefused { (s : Beginning) (h : History) → PairFrom s h (pair_view self.old) → StepByStep (Around RefusesNoFrame h) (pair_view self.old) result.0.items (pair_view self.new) }
         ensures readable { (s : Beginning) (h : History) → PairFrom s h (pair_view self.old) → StepByStep (Behind WithholdsNothing h) (pair_view self.old) result.0.items (pair_view self.new) }
         ensures drained { (s : Beginning) (h : History) → PairFrom s h (pair_view self.old) → StepByStep (Behind Drains h) (pair_view self.old) result.0.items (pair_view self.new) }
@@ -49,6 +53,7 @@ impl Pair {
         ensures not_withheld { (s : Beginning) (h : History) → PairFrom s h (pair_view self.old) → StepByStep (WithholdsNone s h) (pair_view self.old) result.0.items (pair_view self.new) }
         ensures order { OnOk result.1 (IsSettling (pair_view self.old) result.0.items (pair_view self.new)) }
         ensures cut_off { result.1 ≡ Err PairError.OutOfMemory → IsCutOff (pair_view self.old) result.0.items (pair_view self.new) }
+        ensures memory { result.1 ≡ Err PairError.OutOfMemory → IsOutOfMemory result.0.items (vec_capacity result.0) }
         ensures waiting { is_some (pair_view self.old).waits ≡ true → result.1 ≡ Err PairError.Undecided }
         ensures undecided { result.1 ≡ Err PairError.Undecided → IsUndecided (pair_view self.old) result.0.items (pair_view self.new) }
         ensures decided { OnOk result.1 ((pair_view self.old).waits ≡ None) }
@@ -77,6 +82,7 @@ impl Pair {
         ensures next { StepsBy NextTaken (λ before between step reply after. Unit {0}) (pair_view self.old) taken.new.items (pair_view self.new) }
         ensures order { OnOk result (IsSettling (pair_view self.old) taken.new.items (pair_view self.new)) }
         ensures cut_off { OnErr result (IsCutOff (pair_view self.old) taken.new.items (pair_view self.new)) }
+        ensures memory { OnErr result (IsOutOfMemory taken.new.items (vec_capacity taken.new)) }
         ensures settled { OnOk result (AreSettledIn 0 (length (pair_view self.new).sent) (pair_view self.new).sent) }
     {
         let mut phase = Phase::Report(0, false);
@@ -88,7 +94,8 @@ impl Pair {
 
     // Takes the step of a phase, and notes it with its reply. Answers what is next.
     fn take(&mut self, phase: Phase, taken: &mut Vec<StepTaken>) -> Result<Phase, OutOfMemory>
-        ensures { TakesPhaseOrNone (pair_view self.old) taken.old.items phase result (pair_view self.new) taken.new.items }
+        ensures takes { TakesPhaseOrNone (pair_view self.old) taken.old.items phase result (pair_view self.new) taken.new.items }
+        ensures memory { OnErr result (IsOutOfMemory taken.new.items (vec_capacity taken.new)) }
     {
         taken.reserve(1)?;
         let sent = self.sent.len();
@@ -154,7 +161,8 @@ impl Pair {
         ensures settled { AreSettledIn from result (pair_view self.now).sent }
     {
         for number in from..self.sent.len() {
-            if !self.sent[number].unsettled.is_settled() {
+            let whole = &self.sent[number];
+            if !whole.unsettled.is_settled() {
                 return number;
             }
         }

@@ -14,7 +14,7 @@ use Rattle.quic_history.specs.Halves.{with_first, is_among}
 use Rattle.quic_history.specs.World.{Made, made_with, start, remote_of}
 use Rattle.quic_link.specs.Endpoints.{limits_of}
 use Rattle.quic_steps.specs.declared.steps.End.{End}
-use Rattle.quic_exchange.specs.declared.sent.Sent.{Sent}
+use Rattle.quic_exchange.specs.Sent.{Sent}
 use Rattle.quic_exchange.specs.From.{end_begun}
 use Rattle.quic_exchange.specs.Tale.{Tale, tale_begun, with_limits_given}
 use Rattle.quic_progress.proofs.Permissions.{Permission, AllData, DataOn, StreamsOf, limit_in, next_limit_in, announced_of}

@@ -25,7 +25,7 @@ use Rattle.quic_link.proofs.Joint.{agrees}
 use Rattle.quic_link.proofs.Sums.{total-most}
 use Rattle.quic_steps.specs.declared.steps.End.{End}
 use Rattle.quic_steps.specs.declared.steps.End.TheVariants.{A, B}
-use Rattle.quic_exchange.specs.declared.sent.Sent.{Sent}
+use Rattle.quic_exchange.specs.Sent.{Sent}
 use Rattle.quic_exchange.specs.Payloads.{is_accepted}
 use Rattle.quic_exchange.specs.State.{PairState, peer, the_end}
 use Rattle.quic_exchange.specs.History.{History, Past, past_of}

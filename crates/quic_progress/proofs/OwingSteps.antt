@@ -30,8 +30,7 @@ use Rattle.quic_streams.specs.declared.settling.SentPayload.{SentPayload}
 use Rattle.quic_endpoint.specs.Ends.{EndState, StopsReading, TellsResetAt, SetsConcurrentAt, ReadsAt, RefusesRead, with_counts_told, with_counts_told_if, with_window_set}
 use Rattle.quic_endpoint.specs.Receiving.{MakesCall, event_of, stopped_so}
 use Rattle.quic_steps.specs.declared.steps.End.{End}
-use Rattle.quic_exchange.specs.declared.sent.Sent.{Sent}
-use Rattle.quic_exchange.specs.declared.unsettled.Unsettled.{Unsettled}
+use Rattle.quic_exchange.specs.Sent.{Sent, Unsettled}
 use Rattle.quic_exchange.specs.declared.unsettled.Report.TheVariants.{Acknowledged}
 use Rattle.quic_exchange.specs.Due.{AsksData, AsksWindow, HasConsumed}
 use Rattle.quic_progress.proofs.Leaves.{May, Leaves, HalfGoes, leaves-same, leaves-at, leaves-step, freed-half}

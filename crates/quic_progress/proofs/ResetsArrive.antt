@@ -17,7 +17,7 @@ use Rattle.quic_steps.specs.declared.steps.End.TheVariants.{A, B}
 use Rattle.quic_steps.specs.declared.steps.Step.{Step}
 use Rattle.quic_steps.specs.declared.steps.Step.TheVariants as steps
 use Rattle.quic_steps.specs.declared.steps.Reply.TheVariants.{Done}
-use Rattle.quic_exchange.specs.declared.sent.Sent.{Sent}
+use Rattle.quic_exchange.specs.Sent.{Sent}
 use Rattle.quic_exchange.specs.Gone.{with_noted, with_all_noted, noted_at}
 use Rattle.quic_exchange.specs.State.{PairState, the_end}
 use Rattle.quic_exchange.specs.History.{History, Past, FramePlace, after, past_of}

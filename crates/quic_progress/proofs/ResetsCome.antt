@@ -27,8 +27,7 @@ use Rattle.quic_endpoint.specs.Emitting.{PayloadView, control_in}
 use Rattle.quic_endpoint.specs.Reports.{LosesPayloadAt, AcksPayloadAt}
 use Rattle.quic_steps.specs.declared.steps.End.{End}
 use Rattle.quic_steps.specs.declared.steps.End.TheVariants.{A, B}
-use Rattle.quic_exchange.specs.declared.sent.Sent.{Sent}
-use Rattle.quic_exchange.specs.declared.unsettled.Unsettled.{Unsettled}
+use Rattle.quic_exchange.specs.Sent.{Sent, Unsettled}
 use Rattle.quic_exchange.specs.declared.unsettled.Report.{Report}
 use Rattle.quic_exchange.specs.declared.unsettled.Report.TheVariants.{Lost, Acknowledged}
 use Rattle.quic_exchange.specs.Unsettled.{unsettled_after}

@@ -13,7 +13,7 @@ use Rattle.quic_history.proofs.Histories.{permits-now}
 use Rattle.quic_streams.specs.declared.settling.SentPayload.{SentPayload}
 use Rattle.quic_steps.specs.declared.steps.End.{End}
 use Rattle.quic_steps.specs.declared.steps.End.TheVariants.{A, B}
-use Rattle.quic_exchange.specs.declared.sent.Sent.{Sent}
+use Rattle.quic_exchange.specs.Sent.{Sent}
 use Rattle.quic_exchange.specs.State.{PairState, peer, the_end}
 use Rattle.quic_exchange.specs.History.{History}
 use Rattle.quic_exchange.specs.From.{Beginning, PairFrom}

@@ -23,7 +23,7 @@ use Rattle.quic_steps.specs.declared.steps.Step.{Step as PairStep}
 use Rattle.quic_steps.specs.declared.steps.Step.TheVariants as steps
 use Rattle.quic_steps.specs.declared.steps.Reply.TheVariants.{Done, Payload}
 use Rattle.quic_steps.specs.declared.steps.PairError.TheVariants.{NoSuchPayload, NoSuchFrame, NotAccepted, AlreadySettled, OutOfMemory as NoMemory}
-use Rattle.quic_exchange.specs.declared.sent.Sent.{Sent}
+use Rattle.quic_exchange.specs.Sent.{Sent}
 use Rattle.quic_exchange.specs.declared.unsettled.Report.TheVariants.{Lost, Acknowledged}
 use Rattle.quic_exchange.specs.Replies.{Answer, handled_reply}
 use Rattle.quic_exchange.specs.State.{PairState, peer, the_end, with_end, with_sent}

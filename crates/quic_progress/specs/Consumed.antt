@@ -6,7 +6,7 @@ use Rattle.quic_steps.specs.declared.steps.End.TheVariants.{A, B}
 use Rattle.quic_exchange.specs.State.{PairState, peer, the_end}
 use Rattle.quic_exchange.specs.History.{Past}
 use Rattle.quic_exchange.specs.Readable.{SomeReset}
-use Rattle.quic_exchange.specs.declared.sent.Sent.{Sent}
+use Rattle.quic_exchange.specs.Sent.{Sent}
 use Rattle.quic_link.specs.Endpoints.{IsOneOf}
 use Rattle.quic_exchange.specs.Tale.{Tale, Tales}
 use Rattle.quic_progress.specs.Progress.{OwesNoDebt, CanBeTold, IsAllConsumed}

@@ -1,7 +1,7 @@
 use Rattle.std.proofs.Common.{rules, ◌≡◌, ◌<◌, ◌+◌, ◌++◌, ◌∷◌, [], List, length, take, ap, ◌∙◌, sym}
 use Rattle.std.proofs.lemmas.List.{take_more}
 use Rattle.quic_retransmits.specs.Pending.{Pending, pending_view}
-use Rattle.quic_exchange.specs.declared.sent.Sent.{Sent}
+use Rattle.quic_exchange.specs.Sent.{Sent}
 use Rattle.quic_exchange.specs.Gone.{with_noted, with_all_noted}
 use Rattle.quic_exchange.proofs.Gone.{noted-behind}
 use Rattle.quic_exchange.proofs.early.with_all_noted.Goals as goal
@@ -15,6 +15,5 @@ loop-index-preserved c =
     let within : n < length all = search rules in
     let next : take (n + 1) all ≡ take n all ++ s ∷ [] = take_more all n s within ∙ ap (λ (x : Sent). take n all ++ x ∷ []) (sym c.index-sent-index.is) in
     c.in_ok-join_noted.ensures
-    ∙ ap (λ (x : Sent). with_noted (pending_view c.loop-index.all) x.unsettled.rest) (sym c.index-sent-index.is)
     ∙ ap (λ (q : Pending). with_noted q s.unsettled.rest) c.loop-index.invariant
     ∙ sym (ap (λ (l : List Sent). with_all_noted p l) next ∙ noted-behind (take n all) p s)

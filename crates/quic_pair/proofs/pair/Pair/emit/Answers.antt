@@ -6,7 +6,7 @@ use Rattle.quic_exchange.specs.State.{PairState}
 use Rattle.quic_pair.specs.Shown.{pair_view}
 use Rattle.quic_exchange.proofs.Deeds.{emit-so}
 use Rattle.quic_pair.proofs.pair.Pair.emit.Goals as goal
-use Rattle.quic_exchange.specs.declared.sent.Sent.{Sent}
+use Rattle.quic_exchange.specs.Sent.{Sent}
 use Rattle.quic_endpoint.specs.Emitting.{payload_view}
 use Rattle.quic_exchange.specs.Steps.{IsSentBy}
 

@@ -8,10 +8,11 @@ use Rattle.quic_exchange.specs.Unrefused.{RefusesNoFrame}
 use Rattle.quic_exchange.specs.Readable.{WithholdsNothing}
 use Rattle.quic_exchange.specs.Law.{Drains}
 use Rattle.quic_exchange.specs.Runs.{TakesSteps, none}
-use Rattle.quic_exchange.proofs.Leads.{headline-led, honest-led, refused-led, unrefused-led, readable-led, drains-led}
-use Rattle.quic_exchange.proofs.Runs.{from-steps, each-behind, each-early, each-around, each-asks, each-permits, each-after, each-stays}
+use Rattle.quic_exchange.proofs.Leads.{headline-led, welcome-led, honest-led, refused-led, unrefused-led, readable-led, drains-led}
+use Rattle.quic_exchange.proofs.Runs.{from-steps, each-behind, each-early, each-around, each-asks, each-permits, each-after, each-stays, each-network}
 use Rattle.quic_exchange.proofs.Completes.{steps-decided, none-waits, reported-led, idle-led, no-rest-led, acked-led, arrived-led, read-led, told-led, stops-led}
 use Rattle.quic_exchange.proofs.PolledOut.{polled-out}
+use Rattle.quic_exchange.proofs.Network.{network-led}
 use Rattle.quic_pair.proofs.pair.Pair.settle.Goals as goal
 
 -- it is not decided
@@ -31,6 +32,9 @@ returns-then-is_some c =
       refused = λ s h f. each-early IsRefusedSo refused-led s h v taken v f run;
       throughout = λ s h f. each-after s h v taken v f run;
       unchanged = each-stays v taken v run;
+      network = each-network v taken v run;
+      returned = λ s h f. network-led (from-steps f run);
+      welcome = λ s h f. welcome-led (from-steps f run);
       unrefused = λ s h f. each-around RefusesNoFrame unrefused-led s h v taken v f run;
       readable = λ s h f. each-behind WithholdsNothing readable-led s h v taken v f run;
       drained = λ s h f. each-behind Drains drains-led s h v taken v f run;
@@ -47,6 +51,7 @@ returns-then-is_some c =
       told = tt;
       stops = tt;
       cut_off = λ e. cc;
+      memory = λ e. cc;
       waiting = λ e. refl;
       undecided = λ e. record { waits = sym c.is_some.ensures ∙ c.if-is_some.true; taken_is = empty; same = refl };
       only = inr refl;
@@ -68,6 +73,9 @@ returns-in-Err c =
       refused = λ s h f. each-early IsRefusedSo refused-led s h v taken w f run;
       throughout = λ s h f. each-after s h v taken w f run;
       unchanged = each-stays v taken w run;
+      network = each-network v taken w run;
+      returned = λ s h f. network-led (from-steps f run);
+      welcome = λ s h f. welcome-led (from-steps f run);
       unrefused = λ s h f. each-around RefusesNoFrame unrefused-led s h v taken w f run;
       readable = λ s h f. each-behind WithholdsNothing readable-led s h v taken w f run;
       drained = λ s h f. each-behind Drains drains-led s h v taken w f run;
@@ -84,6 +92,7 @@ returns-in-Err c =
       told = tt;
       stops = tt;
       cut_off = λ e. rw c.in-Err.is at c.settle_into.ensures.cut_off;
+      memory = λ e. rw c.in-Err.is at c.settle_into.ensures.memory;
       waiting = λ e. let both : true ≡ false = sym e ∙ ap is_some before in cc;
       undecided = λ e. cc;
       only = inl refl;
@@ -108,6 +117,9 @@ returns-in-Ok c =
       refused = λ s h f. each-early IsRefusedSo refused-led s h v taken w f run;
       throughout = λ s h f. each-after s h v taken w f run;
       unchanged = each-stays v taken w run;
+      network = each-network v taken w run;
+      returned = λ s h f. network-led (from-steps f run);
+      welcome = λ s h f. welcome-led (from-steps f run);
       unrefused = λ s h f. each-around RefusesNoFrame unrefused-led s h v taken w f run;
       readable = λ s h f. each-behind WithholdsNothing readable-led s h v taken w f run;
       drained = λ s h f. each-behind Drains drains-led s h v taken w f run;
@@ -124,6 +136,7 @@ returns-in-Ok c =
       told = λ s h f. told-led s h v taken w f before steps.1 settling settled;
       stops = λ s h f led. stops-led s (h ++ taken) w led steps.1 (idle-led s h v taken w f before steps.1 settling) (polled-out v taken w settling);
       cut_off = λ e. cc;
+      memory = λ e. cc;
       waiting = λ e. let both : true ≡ false = sym e ∙ ap is_some before in cc;
       undecided = λ e. cc;
       only = tt;

@@ -15,17 +15,20 @@ loop-next-init c =
     record { taken = subst P (sym c.requires) none; order = subst Q (sym c.requires) follows_none }
 
 pub returns-in_err-phase-clause-next : goal.returns-in_err-phase-clause-next
-returns-in_err-phase-clause-next c = steps-on (pair_view c.args.self.now) (pair_view c.loop-next.self) c.loop-next.taken.items c.in-Some.next c.take.result (pair_view c.take.new.self) c.take.new.taken.items c.loop-next.invariant.taken c.take.ensures
+returns-in_err-phase-clause-next c = steps-on (pair_view c.args.self.now) (pair_view c.loop-next.self) c.loop-next.taken.items c.in-Some.next c.take.result (pair_view c.take.new.self) c.take.new.taken.items c.loop-next.invariant.taken c.take.ensures.takes
 
 pub returns-in_err-phase-clause-cut_off : goal.returns-in_err-phase-clause-cut_off
 returns-in_err-phase-clause-cut_off c =
     on-err c.from_residual.result _
-    (cut-off (pair_view c.args.self.now) (pair_view c.loop-next.self) c.loop-next.taken.items c.loop-next.phase c.in-Some.next c.in_err-phase.field-0.0 (pair_view c.take.new.self) c.take.new.taken.items c.loop-next.invariant.order c.in-Some.ensures.sought c.in_err-phase.ensures)
+    (cut-off (pair_view c.args.self.now) (pair_view c.loop-next.self) c.loop-next.taken.items c.loop-next.phase c.in-Some.next c.in_err-phase.field-0.0 (pair_view c.take.new.self) c.take.new.taken.items c.loop-next.invariant.order c.in-Some.ensures.sought c.in_err-phase.ensures.takes)
+
+pub returns-in_err-phase-clause-memory : goal.returns-in_err-phase-clause-memory
+returns-in_err-phase-clause-memory c = on-err c.from_residual.result _ c.in_err-phase.ensures.memory
 
 pub loop-next-preserved : goal.loop-next-preserved
 loop-next-preserved c = record {
-  taken = steps-on (pair_view c.args.self.now) (pair_view c.loop-next.self) c.loop-next.taken.items c.in-Some.next c.take.result (pair_view c.take.new.self) c.take.new.taken.items c.loop-next.invariant.taken c.take.ensures;
-  order = follows-on (pair_view c.args.self.now) (pair_view c.loop-next.self) c.loop-next.taken.items c.loop-next.phase c.in-Some.next c.in_ok-phase.phase (pair_view c.take.new.self) c.take.new.taken.items c.loop-next.invariant.order c.in-Some.ensures.sought c.in_ok-phase.ensures;
+  taken = steps-on (pair_view c.args.self.now) (pair_view c.loop-next.self) c.loop-next.taken.items c.in-Some.next c.take.result (pair_view c.take.new.self) c.take.new.taken.items c.loop-next.invariant.taken c.take.ensures.takes;
+  order = follows-on (pair_view c.args.self.now) (pair_view c.loop-next.self) c.loop-next.taken.items c.loop-next.phase c.in-Some.next c.in_ok-phase.phase (pair_view c.take.new.self) c.take.new.taken.items c.loop-next.invariant.order c.in-Some.ensures.sought c.in_ok-phase.ensures.takes;
 }
 
 pub returns : goal.returns
@@ -33,5 +36,6 @@ returns c = record {
   next = c.loop-next.invariant.taken;
   order = record { at = c.loop-next.phase; follows = c.loop-next.invariant.order; ended = c.in_default.ensures.none };
   cut_off = tt;
+  memory = tt;
   settled = c.in_default.ensures.none.settled;
 }

@@ -4,7 +4,8 @@ use Rattle.quic_steps.specs.declared.steps.PairError.TheVariants.{Undecided}
 use Rattle.quic_pair.specs.Shown.{pair_view}
 use Rattle.quic_exchange.specs.Steps.{Next, needs_decision}
 use Rattle.quic_exchange.specs.From.{next}
-use Rattle.quic_exchange.proofs.Leads.{next-refused, next-taken, headline-led, honest-led, refused-led, unrefused-led, readable-led, drains-led, asks-led, not-withheld-led, stays-led}
+use Rattle.quic_exchange.proofs.Leads.{next-refused, next-taken, headline-led, welcome-led, honest-led, refused-led, unrefused-led, readable-led, drains-led, asks-led, not-withheld-led, stays-led}
+use Rattle.quic_exchange.proofs.Network.{changes-network, network-led}
 use Rattle.quic_pair.proofs.pair.Pair.step.Goals as goal
 
 -- a step that has to wait is refused
@@ -20,6 +21,9 @@ returns-then-must_wait c =
       honest = λ s h f. honest-led (next c.args.step (Err Undecided) f n);
       refused = λ s h f. refused-led s h old old c.args.step (Err Undecided) f n;
       unchanged = λ r. stays-led old old c.args.step (Err Undecided) n r;
+      network = changes-network old old c.args.step (Err Undecided) n;
+      returned = λ s h f. network-led (next c.args.step (Err Undecided) f n);
+      welcome = λ s h f. welcome-led (next c.args.step (Err Undecided) f n);
       unrefused = λ s h f. unrefused-led s h old old c.args.step (Err Undecided) f n;
       readable = λ s h f. readable-led s h old old c.args.step (Err Undecided) f n;
       drained = λ s h f. drains-led s h old old c.args.step (Err Undecided) f n;
@@ -40,6 +44,9 @@ returns c =
       honest = λ s h f. honest-led (next c.args.step c.dispatch.result f n);
       refused = λ s h f. refused-led s h old new c.args.step c.dispatch.result f n;
       unchanged = λ r. stays-led old new c.args.step c.dispatch.result n r;
+      network = changes-network old new c.args.step c.dispatch.result n;
+      returned = λ s h f. network-led (next c.args.step c.dispatch.result f n);
+      welcome = λ s h f. welcome-led (next c.args.step c.dispatch.result f n);
       unrefused = λ s h f. unrefused-led s h old new c.args.step c.dispatch.result f n;
       readable = λ s h f. readable-led s h old new c.args.step c.dispatch.result f n;
       drained = λ s h f. drains-led s h old new c.args.step c.dispatch.result f n;

@@ -1,4 +1,4 @@
-use Rattle.std.proofs.Common.{◌≡◌, ◌++◌, [], ◌∷◌, length, Result, Ok, Err, ap, sym, subst, ◌∙◌, inl, arith}
+use Rattle.std.proofs.Common.{◌≡◌, ◌++◌, [], ◌∷◌, length, Result, Ok, Err, ap, sym, subst, ◌∙◌, inl, inr, arith}
 use Rattle.quic_values.specs.declared.memory.OutOfMemory.{OutOfMemory}
 use Rattle.quic_steps.specs.declared.steps.Step.{Step}
 use Rattle.quic_exchange.specs.declared.phase.Phase.{Phase}
@@ -22,28 +22,34 @@ returns-in-Some c =
     let reply = c.dispatch-reply.result in
     let P : Step → Type 0 = λ s. NextTaken (pair_view c.args.self.now) s reply (pair_view c.dispatch-reply.new.self) in
     let size : c.len-sent.result ≡ length (pair_view c.args.self.now).sent = omega (arith, c.len-sent.ensures, c.args.self.now.sent.ok.0) in
-    inl (record {
-      reply = reply;
-      next = subst P c.step.ensures c.dispatch-reply.ensures;
-      noted = c.note.ensures ∙ ap (λ l. l ++ (c.step-2.result, reply) ∷ []) c.in_ok-reserve.ensures.items ∙ ap (λ s. c.args.taken.now.items ++ (s, reply) ∷ []) c.step-2.ensures;
-      goes = λ next_one e. (
-        c.in-Some.going,
-        sym c.going_of-going.ensures ∙ c.in-Some.is,
-        sym (ok_same c.after.result next_one e) ∙ c.after.ensures ∙ ap (phase_after c.args.phase c.in-Some.going c.len-sent.result) c.is_quiet.ensures
-            ∙ ap (λ n. phase_after c.args.phase c.in-Some.going n (is_quiet_at (pair_view c.dispatch-reply.new.self).sent n)) size,
-      );
-      wanting = λ error e. absurd (ok_err _ error e);
-    })
+    record {
+      takes = inl (record {
+        reply = reply;
+        next = subst P c.step.ensures c.dispatch-reply.ensures;
+        noted = c.note.ensures ∙ ap (λ l. l ++ (c.step-2.result, reply) ∷ []) c.in_ok-reserve.ensures.items ∙ ap (λ s. c.args.taken.now.items ++ (s, reply) ∷ []) c.step-2.ensures;
+        goes = λ next_one e. (
+          c.in-Some.going,
+          sym c.going_of-going.ensures ∙ c.in-Some.is,
+          sym (ok_same c.after.result next_one e) ∙ c.after.ensures ∙ ap (phase_after c.args.phase c.in-Some.going c.len-sent.result) c.is_quiet.ensures
+              ∙ ap (λ n. phase_after c.args.phase c.in-Some.going n (is_quiet_at (pair_view c.dispatch-reply.new.self).sent n)) size,
+        );
+        wanting = λ error e. absurd (ok_err _ error e);
+      });
+      memory = tt;
+    }
 
 pub returns-in-None : goal.returns-in-None
 unfolding pair_view
 returns-in-None c =
     let reply = c.dispatch-reply.result in
     let P : Step → Type 0 = λ s. NextTaken (pair_view c.args.self.now) s reply (pair_view c.dispatch-reply.new.self) in
-    inl (record {
-      reply = reply;
-      next = subst P c.step.ensures c.dispatch-reply.ensures;
-      noted = c.note.ensures ∙ ap (λ l. l ++ (c.step-2.result, reply) ∷ []) c.in_ok-reserve.ensures.items ∙ ap (λ s. c.args.taken.now.items ++ (s, reply) ∷ []) c.step-2.ensures;
-      goes = λ next_one e. absurd (err_ok _ next_one e);
-      wanting = λ error e. sym c.going_of-going.ensures ∙ c.in-None.is;
-    })
+    record {
+      takes = inl (record {
+        reply = reply;
+        next = subst P c.step.ensures c.dispatch-reply.ensures;
+        noted = c.note.ensures ∙ ap (λ l. l ++ (c.step-2.result, reply) ∷ []) c.in_ok-reserve.ensures.items ∙ ap (λ s. c.args.taken.now.items ++ (s, reply) ∷ []) c.step-2.ensures;
+        goes = λ next_one e. absurd (err_ok _ next_one e);
+        wanting = λ error e. sym c.going_of-going.ensures ∙ c.in-None.is;
+      });
+      memory = inr (c.args.taken.now.items, c.step-2.result, reply, c.note.ensures ∙ ap (λ l. l ++ (c.step-2.result, reply) ∷ []) c.in_ok-reserve.ensures.items, sym c.going_of-going.ensures ∙ c.in-None.is);
+    }
