@@ -1,8 +1,6 @@
 -- What telling of the counts of streams leaves.
-use Rattle.std.proofs.Common.{◌≡◌, ℕ, Bool, true, false, refl, sym, subst, List, Option, Some, None, Result, Ok, Err}
-use Rattle.std.specs.Prelude.{IfOk, is_ok}
-use Rattle.quic_receiving.specs.declared.errors.ReadableError.{ReadableError}
-use Rattle.quic_streams.specs.declared.batches.ReadSome.{ReadSome}
+use Rattle.std.proofs.Common.{◌≡◌, Bool, true, false, refl, sym, subst, List, Option, Some, None, Result, Ok, Err}
+use Rattle.std.specs.Prelude.{is_ok}
 use Rattle.quic_streams.specs.declared.settling.SentPayload.{SentPayload}
 use Rattle.quic_streams.specs.Sent.{report_view}
 use Rattle.quic_wire.specs.declared.frame.Frame.{Frame}
@@ -14,8 +12,7 @@ use Rattle.quic_history.specs.World.{World, Made}
 use Rattle.quic_history.specs.History.{Event, Fits, From}
 use Rattle.quic_history.proofs.Histories.{next}
 use Rattle.quic_endpoint.specs.Receiving.{MakesCall, event_of, with_call_made, with_answer_told}
-use Rattle.quic_history.specs.Reading.{ReadsSome}
-use Rattle.quic_endpoint.specs.Ends.{EndState, ReadsAt, with_counts_told_if, is_opened}
+use Rattle.quic_endpoint.specs.Ends.{EndState, with_counts_told_if}
 
 pub told-streams : (b : Bool) (e : EndState) → (with_counts_told_if b e).streams ≡ e.streams
 told-streams true e = refl
@@ -25,12 +22,6 @@ told-streams false e = refl
 pub report-ok : (answer : Result (Unit {0}) SentPayload) → is_ok (report_view answer) ≡ is_ok answer
 report-ok (Ok x) = refl
 report-ok (Err back) = refl
-
-pub told-reads : (e after f : EndState) (id most times : ℕ) (ordered : Bool) (answer : Result ReadSome ReadableError)
-    → IfOk answer (λ r. ReadsSome e.streams id most times ordered e.pending r.chunks.items r.last r.transmit.0 after.streams after.pending)
-    → f ≡ with_counts_told_if (is_opened answer) after → IfOk answer (λ r. ReadsAt e id most times ordered r.chunks.items r.last r.transmit.0 f)
-told-reads e after f id most times ordered (Ok r) s k = record { read = after; reads = s; is = k }
-told-reads e after f id most times ordered (Err error) s k = tt
 
 pub answer-streams : (answer : Result ShouldTransmit ReceiveError) (e : EndState) → (with_answer_told answer e).streams ≡ e.streams
 answer-streams (Ok transmit) e = refl

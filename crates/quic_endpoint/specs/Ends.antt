@@ -54,11 +54,6 @@ not_for_memory readable_error.ClosedStream = true
 not_for_memory readable_error.IllegalOrderedRead = true
 not_for_memory readable_error.OutOfMemory = false
 
--- whether a reader was not refused for lack of memory
-abbrev pub is_opened : {A : Type 0} → Result A ReadableError → Bool
-is_opened (Ok a) = true
-is_opened (Err error) = not_for_memory error
-
 -- what came of opening a stream
 abbrev pub OpensAt : EndState → Dir → Result (Option ℕ) OutOfMemory → EndState → Type 0
 OpensAt e dir answer f = OpensOwn e.streams dir false answer f.streams × (f.pending ≡ e.pending)

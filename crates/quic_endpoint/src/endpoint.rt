@@ -6,13 +6,14 @@ ghost use Rattle.quic_history.specs.History.{Event, Sending, Resized, SetConcurr
 ghost use Rattle.quic_history.specs.SendEvents.{GaveLimits, SetWindow, Polled};
 ghost use Rattle.quic_history.specs.Sends.{with_out, with_params_given, TellsNext};
 ghost use Rattle.quic_limits.specs.SendingCredit.{with_window};
-ghost use Rattle.quic_limits.specs.Remote.{lacking};
+ghost use Rattle.quic_limits.specs.Remote.{lacking, open_now};
 ghost use Rattle.quic_retransmits.specs.Pending.{nothing};
 ghost use Rattle.quic_streams.specs.Shown.{streams_view};
 ghost use Rattle.quic_endpoint.specs.Shown.{endpoint_view};
 ghost use Rattle.quic_endpoint.specs.Ends.{with_world, with_counts_told_if, with_window_set, SetsConcurrentAt};
 
 use quic_streams::state::StreamsState;
+use quic_streams::streams::{ConnState, Streams};
 use quic_streams::{PeerLimits, Retransmits};
 use quic_values::{Dir, OutOfMemory, Side, VarInt};
 use quic_wire::StreamEvent;
@@ -118,6 +119,23 @@ impl Endpoint {
         ensures { streams_view result.now ≡ (endpoint_view self.now).streams }
     {
         &self.streams
+    }
+
+    /// How many bidirectional and unidirectional streams the peer has open, and how many streams have send state: those
+    /// that this endpoint opened and those of the peer that it accepted, until they are freed.
+    pub fn stream_counts(&mut self) -> (u64, u64, usize)
+        ensures bi { result.0 ≡ open_now (endpoint_view self.old).streams.bi }
+        ensures uni { result.1 ≡ open_now (endpoint_view self.old).streams.uni }
+        ensures send { result.2 ≡ (endpoint_view self.old).streams.send_streams }
+        ensures same { endpoint_view self.new ≡ endpoint_view self.old }
+    {
+        let streams = Streams::new(&mut self.streams, ConnState::Open);
+        let (bi, uni) = (Dir::Bi, Dir::Uni);
+        (
+            streams.remote_open_streams(bi),
+            streams.remote_open_streams(uni),
+            streams.send_streams(),
+        )
     }
 
     // MAX_STREAMS is queued where it is due, if a call was not refused for lack of memory.

@@ -2,7 +2,7 @@
 use Rattle.std.proofs.Common.{◌≡◌, ◌+◌, ◌*◌, ◌≤◌, ◌<◌, ℕ, Bool, true, List, [], ◌∷◌, ◌++◌, length, take, drop, get_or, Some, refl, sym, ap, ◌∙◌, subst, arith}
 use Rattle.std.specs.Prelude.{map}
 use Rattle.std.specs.List.{concat}
-use Rattle.std.proofs.lemmas.List.{map-append, append_assoc, append-nil, length-append, drop-drop, take_more, take-append-drop}
+use Rattle.std.proofs.lemmas.List.{map-append, append_assoc, append-nil, length-append, drop-drop, nil_from_length, take_more, take-append-drop}
 use Rattle.std.proofs.lemmas.List.Folds.{concat-append}
 use Rattle.std.proofs.lemmas.Option.{same_Some}
 use Rattle.std.proofs.Math.Seq.{drop-append_seam, take-append_seam}
@@ -15,7 +15,7 @@ use Rattle.quic_history.specs.declared.progress.LastAnswer.{LastAnswer}
 use Rattle.quic_history.specs.declared.progress.LastAnswer.TheVariants as last_answer
 use Rattle.quic_history.specs.Reading.{bytes_in, GivesChunks, IsCountOf}
 use Rattle.quic_history.proofs.WorldSteps.{receive-there}
-use Rattle.quic_session.specs.Reading.{chunk_bytes, offset_of_first, AreConsecutive, chunks_for, share_of}
+use Rattle.quic_session.specs.Reading.{AreFew, chunk_bytes, offset_of_first, AreConsecutive, chunks_for, share_of}
 
 abbrev bytes_of : Chunk → List ℕ
 bytes_of c = c.bytes
@@ -66,6 +66,11 @@ count-most times n last_answer.Ended h = omega (arith, h)
 count-most times n (last_answer.Reset code) h = omega (arith, h)
 count-most times n last_answer.Memory h = omega (arith, h)
 count-most times n last_answer.More h = omega (arith, h)
+
+-- of one that was asked for, there is one at most, and it is no longer than that
+pub given-few : (w v : World) (id most : ℕ) (ordered : Bool) (cs : List Chunk) → GivesChunks w id most ordered cs v → length cs ≤ 1 → AreFew cs most
+given-few w v id most ordered [] g few = tt
+given-few w v id most ordered (c ∷ cs) (u, r, g) few = (nil_from_length cs (omega (arith, few)), r.reads.1.limit)
 
 -- so all fit where each has its share
 pub given-fit : (w v : World) (id size : ℕ) (ordered : Bool) (cs : List Chunk) (last : LastAnswer) → GivesChunks w id (share_of size) ordered cs v → IsCountOf (chunks_for size) last (length cs) → bytes_in cs ≤ size

@@ -22,8 +22,8 @@ is-least n size r is = by-tests (leb_tells size n) (eqb_tells r size)
 
 -- a payload that was lent is copied into a buffer
 pub put-out : {parts : Parts} {fair : Bool} {s t : Session} {e : Emitted} {held : List ℕ} (out : List ℕ) → LendsPayload (length out) parts fair s e t held → (r : Emitted) (new : List ℕ)
-    → r.len ≡ min (length held) (length out) → new ≡ take r.len held ++ drop r.len out → r.token ≡ e.token → r.ends ≡ e.ends → WritesPayload parts fair s out r t new
-put-out {parts} {fair} {s} {t} {e} {held} out l r new len copied token ends =
+    → r.len ≡ min (length held) (length out) → new ≡ take r.len held ++ drop r.len out → r.token ≡ e.token → r.ends ≡ e.ends → r.cut ≡ e.cut → WritesPayload parts fair s out r t new
+put-out {parts} {fair} {s} {t} {e} {held} out l r new len copied token ends cut =
     let size = length out in
     let shorter : r.len ≡ min e.len size = len ∙ ap (λ b. min (length b) size) l.lent.stands ∙ ap (λ n. min n size) (sym l.lent.len) in
     let P : ℕ → Type 0 = λ k. KeepsNew (unsettled s.unsettled) s.unsettled.next l.sent k (unsettled t.unsettled) t.unsettled.next in
@@ -40,6 +40,7 @@ put-out {parts} {fair} {s} {t} {e} {held} out l r new len copied token ends =
       };
       sent = l.sent;
       keeps = subst P (sym token) l.keeps;
+      cut = cut ∙ l.cut;
       control = l.control;
       streams = l.streams;
       leaves = l.leaves;
@@ -60,6 +61,7 @@ handed-over {s = s} {e = e} l u bytes end beside same =
       lent = record { stands = same ∙ l.lent.stands; len = l.lent.len; ends = l.lent.ends };
       sent = l.sent;
       keeps = subst P (sym payloads) l.keeps;
+      cut = l.cut;
       control = l.control;
       streams = l.streams;
       leaves = (end ∙ l.leaves.0, ap (λ (b : Beside). b.datagrams) beside ∙ l.leaves.1);

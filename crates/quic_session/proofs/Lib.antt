@@ -1,8 +1,11 @@
+pub mod Apart
+pub mod Behind
 pub mod Copied
-pub mod Counted
+pub mod Cut
 pub mod Directed
 pub mod Emitted
 pub mod Lent
 pub mod Payloads
 pub mod Places
+pub mod Processed
 pub mod Taken

@@ -53,13 +53,13 @@ put-behind first next xs x is q = by-order (leb_tells (suc q) first) (eqb_tells 
             let past : length xs + 1 ≤ q - first = omega (arith, l.1, away) in
             get_or_past (xs ++ x ∷ []) (q - first) None (omega (arith, past, length_push xs x)) ∙ sym (get_or_past xs (q - first) None (omega (arith, past)))
 
--- nothing stands under the next token
-pub none-next : (first next : ℕ) (xs : List Place) → next ≡ first + length xs → at_token first xs next ≡ None
-none-next first next xs is = by-order (leb_tells (suc next) first)
+-- nothing stands under the next token, or a later one
+pub none-behind : (first next : ℕ) (xs : List Place) → next ≡ first + length xs → (q : ℕ) → next ≤ q → at_token first xs q ≡ None
+none-behind first next xs is q behind = by-order (leb_tells (suc q) first)
   where
-    by-order : ((nat_lt next first ≡ true) × (suc next ≤ first)) ⊎ ((nat_lt next first ≡ false) × (first < suc next)) → at_token first xs next ≡ None
-    by-order (inl b) = ap (λ t. cond t None (get_or xs (next - first) None)) b.0
-    by-order (inr b) = ap (λ t. cond t None (get_or xs (next - first) None)) b.0 ∙ get_or_past xs (next - first) None (omega (arith, is))
+    by-order : ((nat_lt q first ≡ true) × (suc q ≤ first)) ⊎ ((nat_lt q first ≡ false) × (first < suc q)) → at_token first xs q ≡ None
+    by-order (inl b) = ap (λ t. cond t None (get_or xs (q - first) None)) b.0
+    by-order (inr b) = ap (λ t. cond t None (get_or xs (q - first) None)) b.0 ∙ get_or_past xs (q - first) None (omega (arith, is, behind))
 
 -- another payload stands in a place
 pub put-place : (first : ℕ) (xs : List Place) (i : ℕ) (x : Place) → i < length xs → (q : ℕ) → at_token first (slice_set xs i x) q ≡ cond (first + i == q) x (at_token first xs q)

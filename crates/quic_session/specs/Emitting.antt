@@ -1,5 +1,5 @@
 -- What a session writes into a payload, and what becomes of the session.
-use Rattle.std.specs.Prelude.{ℕ, ◌≡◌, ◌==◌, ◌⊎◌, ◌&&◌, ◌<◌, ◌≤◌, ◌+◌, min, not, nat_le, Bool, true, false, List, [], ◌++◌, length, take, drop, Option, Some, None, Result, Ok, Err, OnOk, OnErr}
+use Rattle.std.specs.Prelude.{ℕ, ◌≡◌, ◌==◌, ◌⊎◌, ◌&&◌, ◌<◌, ◌≤◌, ◌+◌, min, not, nat_le, Bool, true, false, List, [], ◌++◌, length, take, drop, Option, Some, None, Result, Ok, Err, is_err, OnOk, OnErr}
 use Rattle.quic_values.specs.declared.memory.OutOfMemory.{OutOfMemory}
 use Rattle.quic_wire.specs.declared.frame.Datagram.{Datagram}
 use Rattle.quic_wire.specs.declared.frame.StreamMeta.{StreamMeta}
@@ -16,9 +16,9 @@ use Rattle.quic_streams.specs.declared.settling.SentPayload.{SentPayload}
 use Rattle.quic_streams.specs.Payload.{PayloadPlace, Entry, WritesKinds, WritesEntries, IsKindDone, LeavesKind, control_order, with_entries}
 use Rattle.quic_streams.specs.Transmitting.{WritesStreamFrames, GoesOnWithTurns, end_writer, told_bytes, with_turns}
 use Rattle.quic_endpoint.specs.Ends.{EndState}
+use Rattle.quic_endpoint.specs.declared.payload.Payload.{Payload}
 use Rattle.quic_session.specs.declared.session.Session.{Session}
 use Rattle.quic_session.specs.declared.buffer.Buffer.{Buffer}
-use Rattle.quic_session.specs.declared.emitting.Draft.{Draft}
 use Rattle.quic_session.specs.declared.emitting.Emitted.{Emitted}
 use Rattle.quic_session.specs.declared.emitting.Parts.{Parts}
 use Rattle.quic_session.specs.Sessions.{Datagrams, end_of, datagrams_view}
@@ -39,10 +39,10 @@ pub record Writing : Type 0 where
   pub datagrams : Datagrams
   pub payload : DraftView
 
-abbrev pub payload_of : Draft → DraftView
+abbrev pub payload_of : Payload → DraftView
 payload_of d = record { bytes = d.bytes.items; control = noted_in d.sent.control; streams = d.sent.streams.items }
 
-abbrev pub writing_of : Session → Draft → Writing
+abbrev pub writing_of : Session → Payload → Writing
 writing_of s d = record { end = end_of s; datagrams = datagrams_view s; payload = payload_of d }
 
 -- a session with an empty payload
@@ -149,6 +149,7 @@ pub record WritesPayload (parts : Parts) (fair : Bool) (s : Session) (out : List
   pub puts : IsPutOut written.payload (length out) out e new
   pub sent : SentPayload
   pub keeps : KeepsNew (unsettled s.unsettled) s.unsettled.next sent e.token (unsettled t.unsettled) t.unsettled.next
+  pub cut : e.cut ≡ is_err answer
   pub control : noted_in sent.control ≡ written.payload.control
   pub streams : sent.streams.items ≡ written.payload.streams
   pub leaves : IsLeftAs written t
@@ -176,6 +177,7 @@ pub record LendsPayload (most : ℕ) (parts : Parts) (fair : Bool) (s : Session)
   pub lent : IsLent most written.payload e held
   pub sent : SentPayload
   pub keeps : KeepsNew (unsettled s.unsettled) s.unsettled.next sent e.token (unsettled t.unsettled) t.unsettled.next
+  pub cut : e.cut ≡ is_err answer
   pub control : noted_in sent.control ≡ written.payload.control
   pub streams : sent.streams.items ≡ written.payload.streams
   pub leaves : IsLeftAs written t

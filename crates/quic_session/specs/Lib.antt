@@ -1,9 +1,12 @@
 pub mod Datagrams
 pub mod Emitting
 pub mod Lending
+pub mod Params
 pub mod Places
+pub mod Processing
 pub mod Reading
 pub mod Receiving
+pub mod Runs
 pub mod Sessions
 pub mod Settling
 pub mod Tokens

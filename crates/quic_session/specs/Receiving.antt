@@ -1,5 +1,5 @@
 -- What frames and payloads of the peer do to a session.
-use Rattle.std.specs.Prelude.{ℕ, Bool, ◌≡◌, ◌==◌, ◌⊎◌, ◌&&◌, ◌<◌, ◌≤◌, ◌+◌, if◌then◌else◌, nat_le, not, true, false, Option, None, List, [], ◌∷◌, ◌++◌, length, drop, map, IsSomeAnd, Result, Ok, Err}
+use Rattle.std.specs.Prelude.{ℕ, ◌≡◌, ◌==◌, ◌⊎◌, ◌&&◌, ◌<◌, ◌≤◌, ◌+◌, if◌then◌else◌, nat_le, not, false, Option, Some, None, List, [], ◌∷◌, ◌++◌, length, drop, map, IsSomeAnd, Result, Ok, Err}
 use Rattle.quic_values.specs.declared.ids.Dir.{Dir}
 use Rattle.quic_values.specs.declared.ids.Dir.TheVariants.{Bi, Uni}
 use Rattle.quic_values.specs.Ids.{dir_of, index_of}
@@ -8,12 +8,12 @@ use Rattle.quic_wire.specs.declared.frame.Frame.{Frame}
 use Rattle.quic_wire.specs.declared.frame.Frame.TheVariants as frames
 use Rattle.quic_wire.specs.declared.error.ReceiveError.{ReceiveError}
 use Rattle.quic_wire.specs.declared.error.ReceiveError.TheVariants as receive_error
-use Rattle.quic_wire.specs.Codes.{STREAM_STATE_ERROR}
+use Rattle.quic_wire.specs.Codes.{STREAM_LIMIT_ERROR, STREAM_STATE_ERROR}
 use Rattle.quic_wire.specs.Frames.{AreFrames}
 use Rattle.quic_receiving.specs.declared.transmit.ShouldTransmit.{ShouldTransmit}
 use Rattle.quic_datagrams.specs.Queue.{cost, total_cost, with_newest, IsReceiveRefusal}
-use Rattle.quic_outgoing.specs.Outgoing.{own_of}
-use Rattle.quic_history.specs.World.{World, is_own}
+use Rattle.quic_history.specs.Sends.{sending_refusal}
+use Rattle.quic_history.specs.World.{World, is_own, remote_of}
 use Rattle.quic_history.specs.History.{Event}
 use Rattle.quic_endpoint.specs.Receiving.{ReceivesAt, AccountsFrame, event_of, with_call_made}
 use Rattle.quic_session.specs.declared.session.Session.{Session}
@@ -43,34 +43,42 @@ pub record ReceivesDatagram (s : Session) (frame : Frame) (answer : Result Shoul
   pub keeps : KeepsDatagram (datagrams_view s) datagram answer (datagrams_view t)
   pub end : end_of t ≡ end_of s
 
--- whether only the end that opened a stream sends on it
-abbrev pub is_uni : Dir → Bool
-is_uni Uni = true
-is_uni Bi = false
+-- the code with which the connection is to be closed for STREAM_DATA_BLOCKED: STREAM_STATE_ERROR for a stream on which only
+-- this endpoint sends (RFC 9000 section 19.13), STREAM_LIMIT_ERROR for one of the peer beyond the limit that was advertised
+-- (section 4.6)
+abbrev pub blocked_refusal : World → ℕ → Option ℕ
+blocked_refusal w id = if is_own w id
+    then own_refusal (dir_of id)
+    else (if nat_le (remote_of w (dir_of id)).max_remote (index_of id) then Some STREAM_LIMIT_ERROR else None)
+  where
+    own_refusal : Dir → Option ℕ
+    own_refusal Uni = Some STREAM_STATE_ERROR
+    own_refusal Bi = None
 
--- whether a frame is for a stream on which it may not be sent: STOP_SENDING for one on which only the peer sends, or for one
--- of this end that is not open (RFC 9000 section 19.5), STREAM_DATA_BLOCKED for one on which only this end sends (section
--- 19.13)
-abbrev pub is_misdirected : World → Frame → Bool
-is_misdirected w (frames.StopSending f) = if is_own w f.id then nat_le (own_of w.out (dir_of f.id)).opened (index_of f.id) else is_uni (dir_of f.id)
-is_misdirected w (frames.StreamDataBlocked id offset) = is_own w id && is_uni (dir_of id)
-is_misdirected w _ = false
+-- the code with which the connection is to be closed for a frame that names a stream on which the peer may not send it, if it
+-- is one that the streams do not check. STOP_SENDING: STREAM_STATE_ERROR for a stream on which only the peer sends, and for
+-- one of this endpoint that is not open (section 19.5), STREAM_LIMIT_ERROR beyond the limit (section 4.6)
+abbrev pub direction_refusal : World → Frame → Option ℕ
+direction_refusal w (frames.StopSending f) = sending_refusal w f.id
+direction_refusal w (frames.StreamDataBlocked id offset) = blocked_refusal w id
+direction_refusal w _ = None
 
--- an answer by which the connection is to be closed with STREAM_STATE_ERROR
-abbrev pub IsStateError : Result ShouldTransmit ReceiveError → Type 0
-IsStateError (Err (receive_error.Transport error)) = error.code ≡ STREAM_STATE_ERROR
-IsStateError _ = ⊥
+-- an answer by which the connection is to be closed with a code
+abbrev pub ClosesWith : ℕ → Result ShouldTransmit ReceiveError → Type 0
+ClosesWith code (Err (receive_error.Transport error)) = error.code ≡ code
+ClosesWith code _ = ⊥
 
 -- a misdirected frame was refused
 pub record RefusesMisdirected (s : Session) (frame : Frame) (answer : Result ShouldTransmit ReceiveError) (t : Session) : Type 0 where
-  pub misdirected : is_misdirected (end_of s).streams frame ≡ true
-  pub error : IsStateError answer
+  pub code : ℕ
+  pub misdirected : direction_refusal (end_of s).streams frame ≡ Some code
+  pub error : ClosesWith code answer
   pub same : t ≡ s
 
 -- what came of another frame that was in a payload of so many bytes
 pub record ReceivesOther (s : Session) (frame : Frame) (size : ℕ) (answer : Result ShouldTransmit ReceiveError) (t : Session) : Type 0 where
   pub other : IsNoDatagram frame
-  pub directed : is_misdirected (end_of s).streams frame ≡ false
+  pub directed : direction_refusal (end_of s).streams frame ≡ None
   pub receives : ReceivesAt (end_of s) frame answer (end_of t)
   pub accounts : AccountsFrame (end_of s).streams frame size answer (end_of t).streams
   pub datagrams : datagrams_view t ≡ datagrams_view s

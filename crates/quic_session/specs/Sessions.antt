@@ -5,8 +5,7 @@ use Rattle.quic_datagrams.specs.declared.datagrams.DatagramLimits.{DatagramLimit
 use Rattle.quic_datagrams.specs.Sending.{after_drop, has_unblocked}
 use Rattle.quic_wire.specs.declared.frame.Datagram.{Datagram}
 use Rattle.quic_streams.specs.declared.streams.ConnState.{ConnState}
-use Rattle.quic_streams.specs.Shown.{streams_view}
-use Rattle.quic_retransmits.specs.Pending.{pending_view}
+use Rattle.quic_endpoint.specs.Shown.{endpoint_view}
 use Rattle.quic_endpoint.specs.Ends.{EndState}
 use Rattle.quic_session.specs.declared.unsettled.Unsettled.{Unsettled}
 use Rattle.quic_session.specs.declared.session.Session.{Session}
@@ -14,8 +13,8 @@ use Rattle.quic_session.specs.declared.datagrams.DatagramEvent.{DatagramEvent}
 use Rattle.quic_session.specs.declared.datagrams.DatagramEvent.TheVariants as datagram_event
 
 -- the end of the connection
-unfoldable pub end_of : Session → EndState
-end_of s = record { streams = streams_view s.streams; pending = pending_view s.pending }
+abbrev pub end_of : Session → EndState
+end_of s = endpoint_view s.endpoint
 
 -- datagrams: those that wait, at either side
 -- limits: what is permitted of them

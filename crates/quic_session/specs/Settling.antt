@@ -1,5 +1,5 @@
 -- What becomes of a payload that is reported acknowledged or lost by its token.
-use Rattle.std.specs.Prelude.{ℕ, ◌≡◌, ◌⊎◌, List, Some, None, Result, Ok, Err}
+use Rattle.std.specs.Prelude.{ℕ, ◌≡◌, List, Some, None, Result, Ok, Err}
 use Rattle.quic_history.specs.World.{Made}
 use Rattle.quic_history.specs.History.{Event, From}
 use Rattle.quic_streams.specs.declared.settling.SentPayload.{SentPayload}
@@ -42,7 +42,7 @@ pub record AcksSome (s : Session) (token : ℕ) (t : Session) : Type 0 where
 abbrev pub AcksToken : Session → ℕ → Result (Unit {0}) SettleError → Session → Type 0
 AcksToken s token (Ok x) t = AcksAll s token t
 AcksToken s token (Err settle_error.UnknownToken) t = (unsettled s.unsettled token ≡ None) × SettlesNothing s t
-AcksToken s token (Err settle_error.OutOfMemory) t = SettlesNothing s t ⊎ AcksSome s token t
+AcksToken s token (Err settle_error.OutOfMemory) t = AcksSome s token t
 
 -- the payload of a token was lost: all of it was reported, and nothing stands under the token any more
 pub record LosesAll (s : Session) (token : ℕ) (t : Session) : Type 0 where
@@ -65,7 +65,7 @@ pub record LosesSome (s : Session) (token : ℕ) (t : Session) : Type 0 where
 abbrev pub LosesToken : Session → ℕ → Result (Unit {0}) SettleError → Session → Type 0
 LosesToken s token (Ok x) t = LosesAll s token t
 LosesToken s token (Err settle_error.UnknownToken) t = (unsettled s.unsettled token ≡ None) × SettlesNothing s t
-LosesToken s token (Err settle_error.OutOfMemory) t = SettlesNothing s t ⊎ LosesSome s token t
+LosesToken s token (Err settle_error.OutOfMemory) t = LosesSome s token t
 
 -- nothing changed beside the end and the payloads
 abbrev pub SettlesOnly : Session → Session → Type 0

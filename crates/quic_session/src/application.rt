@@ -1,6 +1,7 @@
-//! The calls of the application of a session. Each on a stream is refused where the application was not given it.
+//! The calls of the application of a session. Each on a stream fails with `ClosedStream` unless the application was given
+//! the stream: it was opened by [`Session::open`] or accepted by [`Session::accept`].
 
-ghost use Rattle.std.specs.Prelude.{ℕ, ℤ, List, ◌∷◌, ◌≡◌, true, false, length, Ok, Err, IfOk, IfErr};
+ghost use Rattle.std.specs.Prelude.{ℕ, List, ◌∷◌, ◌≡◌, true, false, is_some, length, None, Ok, Err, IfOk, IfErr, OnErr};
 ghost use Rattle.quic_history.specs.World.{Made};
 ghost use Rattle.quic_history.specs.Acknowledged.{was_given};
 ghost use Rattle.quic_history.specs.History.{Event, Sending, Accepted, Stopped, ToldReset, Began, From, with_reads};
@@ -8,315 +9,200 @@ ghost use Rattle.quic_history.specs.SendEvents.{OpenedOwn, WroteOwn, FinishedOwn
 ghost use Rattle.quic_history.specs.Sends.{OpensOwn};
 ghost use Rattle.quic_history.specs.Writes.{WritesOwn};
 ghost use Rattle.quic_history.specs.Permitting.{with_accepted, acceptable};
-ghost use Rattle.quic_history.specs.Reading.{Stops, TellsReset, ReadsSome, Begins};
-ghost use Rattle.quic_outgoing.specs.Calls.{told_of_half};
-ghost use Rattle.quic_sending.specs.Source.{slice_lists};
+ghost use Rattle.quic_outgoing.specs.Calls.{end_refusal, is_reset_or_gone, told_of_half};
+ghost use Rattle.quic_outgoing.specs.Writing.{refusal_to_stay};
+ghost use Rattle.quic_sending.specs.Source.{slice_lists, without_first};
 ghost use Rattle.quic_streams.specs.Connection.{is_shut};
 ghost use Rattle.quic_streams.specs.Writing.{IsWrittenAs};
-ghost use Rattle.quic_endpoint.specs.Ends.{with_world, FinishesAt, ResetsAt, SetsPriorityAt, StopsReading, TellsResetAt, ReadsAt, RefusesRead, is_handled, not_for_memory};
+ghost use Rattle.quic_endpoint.specs.Ends.{with_world, FinishesAt, ResetsAt, SetsPriorityAt, StopsReading, TellsResetAt, ReadsAt, RefusesRead};
 ghost use Rattle.quic_session.specs.Sessions.{end_of, beside_of};
 ghost use Rattle.quic_session.specs.Reading.{ReadsInto, CopiesChunk, AreFew};
 
 use crate::memory::put_chunks;
 use crate::session::Session;
-use quic_assembler::Chunk;
 use quic_receiving::{HandleError, ReadableError};
-use quic_sending::{ClosedStream, FinishError, WriteError};
+use quic_sending::{ClosedStream, FinishError, WriteError, Written};
 use quic_streams::batches::ReadSome;
 use quic_streams::progress::LastAnswer;
-use quic_streams::recv_stream::RecvStream;
-use quic_streams::send_stream::SendStream;
-use quic_streams::streams::Streams;
-use quic_values::{Dir, OutOfMemory, StreamId, VarInt};
+use quic_values::{Bytes, Dir, OutOfMemory, StreamId, VarInt};
 use std::mem;
 
-#[tactic(auto, unfolding(crate::specs::Sessions::end_of))]
 impl Session {
-    /// Opens the next stream of a direction, as [`Streams::open`].
+    /// Opens the next stream of a direction, as [`Endpoint::open_in`](quic_endpoint::Endpoint::open_in).
     pub fn open(&mut self, dir: Dir) -> Result<Option<StreamId>, OutOfMemory>
         ensures opens { OpensOwn (end_of self.old).streams dir (is_shut self.old.conn) result (end_of self.new).streams }
         ensures pending { (end_of self.new).pending ≡ (end_of self.old).pending }
         ensures from { (m : Made) (h : List Event) → From m h (end_of self.old).streams → From m (Sending (OpenedOwn dir (is_shut self.old.conn) result) ∷ h) (end_of self.new).streams }
         ensures beside { beside_of self.new ≡ beside_of self.old }
     {
-        Streams::new(&mut self.streams, self.conn).open(dir)
+        self.endpoint.open_in(self.conn, dir)
     }
 
-    /// Accepts the next stream of a direction, as [`Streams::accept`].
+    /// Accepts the next stream of a direction that the peer opened (RFC 9000 section 2.1).
     pub fn accept(&mut self, dir: Dir) -> Option<StreamId>
         ensures id { result ≡ acceptable (end_of self.old).streams dir }
         ensures accepted { end_of self.new ≡ with_world (end_of self.old) (with_accepted (end_of self.old).streams dir) }
         ensures from { (m : Made) (h : List Event) → From m h (end_of self.old).streams → From m (Accepted dir result ∷ h) (end_of self.new).streams }
         ensures beside { beside_of self.new ≡ beside_of self.old }
     {
-        Streams::new(&mut self.streams, self.conn).accept(dir)
+        self.endpoint.accept(dir)
     }
 
-    /// Writes the first of `bytes`, as [`SendStream::write`].
+    /// Writes the first of `bytes` to a stream, and returns how many.
     pub fn write(&mut self, id: StreamId, bytes: &[u8]) -> Result<usize, WriteError>
         ensures writes { was_given (end_of self.old).streams id ≡ true → IsWrittenAs result (λ written. (left : List (List ℕ))
             × WritesOwn (end_of self.old).streams id (slice_lists bytes.now) (is_shut self.old.conn) (end_of self.old).pending written (end_of self.new).streams left (end_of self.new).pending) }
         ensures unknown { was_given (end_of self.old).streams id ≡ false → (result ≡ Err WriteError.ClosedStream) × (end_of self.new ≡ end_of self.old) }
+        ensures memory { result ≡ Err WriteError.OutOfMemory → refusal_to_stay (end_of self.old).streams.out ((end_of self.old).streams.out.halves id) ≡ None }
         ensures from { was_given (end_of self.old).streams id ≡ true → IsWrittenAs result (λ written. (m : Made) (h : List Event) → From m h (end_of self.old).streams
             → From m (Sending (WroteOwn id (slice_lists bytes.now) (is_shut self.old.conn) written) ∷ h) (end_of self.new).streams) }
         ensures beside { beside_of self.new ≡ beside_of self.old }
     {
-        if !self.streams.was_given(id) {
+        if !self.was_given(id) {
             return Err(WriteError::ClosedStream);
         }
-        self.write_given(id, bytes)
+        self.endpoint.write_in(self.conn, id, bytes)
     }
 
-    // The same, of a stream that was given.
-    fn write_given(&mut self, id: StreamId, bytes: &[u8]) -> Result<usize, WriteError>
-        ensures writes { IsWrittenAs result (λ written. (left : List (List ℕ))
-            × WritesOwn (end_of self.old).streams id (slice_lists bytes.now) (is_shut self.old.conn) (end_of self.old).pending written (end_of self.new).streams left (end_of self.new).pending) }
-        ensures from { IsWrittenAs result (λ written. (m : Made) (h : List Event) → From m h (end_of self.old).streams
-            → From m (Sending (WroteOwn id (slice_lists bytes.now) (is_shut self.old.conn) written) ∷ h) (end_of self.new).streams) }
+    /// Writes the first bytes of some chunks to a stream. What was written is gone from the chunks.
+    pub fn write_chunks(
+        &mut self,
+        id: StreamId,
+        chunks: &mut [Bytes],
+    ) -> Result<Written, WriteError>
+        ensures writes { was_given (end_of self.old).streams id ≡ true → (left : List (List ℕ))
+            × WritesOwn (end_of self.old).streams id chunks.old (is_shut self.old.conn) (end_of self.old).pending result (end_of self.new).streams left (end_of self.new).pending }
+        ensures unknown { was_given (end_of self.old).streams id ≡ false → (result ≡ Err WriteError.ClosedStream) × (end_of self.new ≡ end_of self.old) }
+        ensures memory { result ≡ Err WriteError.OutOfMemory → refusal_to_stay (end_of self.old).streams.out ((end_of self.old).streams.out.halves id) ≡ None }
+        ensures from { was_given (end_of self.old).streams id ≡ true → (m : Made) (h : List Event) → From m h (end_of self.old).streams
+            → From m (Sending (WroteOwn id chunks.old (is_shut self.old.conn) result) ∷ h) (end_of self.new).streams }
+        ensures left { IfOk result (λ written. chunks.new ≡ without_first written.bytes chunks.old) }
+        ensures kept { OnErr result (chunks.new ≡ chunks.old) }
         ensures beside { beside_of self.new ≡ beside_of self.old }
     {
-        let (streams, pending) = (&mut self.streams, &mut self.pending);
-        SendStream::new(id, streams, pending, self.conn).write(bytes)
+        if !self.was_given(id) {
+            return Err(WriteError::ClosedStream);
+        }
+        self.endpoint.write_chunks_in(self.conn, id, chunks)
     }
 
-    /// Ends a stream, as [`SendStream::finish`].
+    /// Ends the send side of a stream (RFC 9000 section 3.1).
     pub fn finish(&mut self, id: StreamId) -> Result<(), FinishError>
         ensures finishes { was_given (end_of self.old).streams id ≡ true → FinishesAt (end_of self.old) id result (end_of self.new) }
         ensures unknown { was_given (end_of self.old).streams id ≡ false → (result ≡ Err FinishError.ClosedStream) × (end_of self.new ≡ end_of self.old) }
+        ensures memory { result ≡ Err FinishError.OutOfMemory → end_refusal ((end_of self.old).streams.out.halves id) ≡ None }
         ensures from { was_given (end_of self.old).streams id ≡ true → (m : Made) (h : List Event) → From m h (end_of self.old).streams → From m (Sending (FinishedOwn id result) ∷ h) (end_of self.new).streams }
         ensures beside { beside_of self.new ≡ beside_of self.old }
     {
-        if !self.streams.was_given(id) {
+        if !self.was_given(id) {
             return Err(FinishError::ClosedStream);
         }
-        self.finish_given(id)
+        self.endpoint.finish(id)
     }
 
-    // The same, of a stream that was given.
-    fn finish_given(&mut self, id: StreamId) -> Result<(), FinishError>
-        ensures finishes { FinishesAt (end_of self.old) id result (end_of self.new) }
-        ensures from { (m : Made) (h : List Event) → From m h (end_of self.old).streams → From m (Sending (FinishedOwn id result) ∷ h) (end_of self.new).streams }
-        ensures beside { beside_of self.new ≡ beside_of self.old }
-    {
-        let (streams, pending) = (&mut self.streams, &mut self.pending);
-        SendStream::new(id, streams, pending, self.conn).finish()
-    }
-
-    /// Gives a stream up, as [`SendStream::reset`].
+    /// Resets the send side of a stream (RFC 9000 section 19.4).
     pub fn reset(&mut self, id: StreamId, error_code: VarInt) -> Result<(), HandleError>
         ensures resets { was_given (end_of self.old).streams id ≡ true → ResetsAt (end_of self.old) id error_code result (end_of self.new) }
         ensures unknown { was_given (end_of self.old).streams id ≡ false → (result ≡ Err HandleError.ClosedStream) × (end_of self.new ≡ end_of self.old) }
+        ensures memory { result ≡ Err HandleError.OutOfMemory → is_reset_or_gone ((end_of self.old).streams.out.halves id) ≡ false }
         ensures from { was_given (end_of self.old).streams id ≡ true → (m : Made) (h : List Event) → From m h (end_of self.old).streams → From m (Sending (ResetOwn id error_code result) ∷ h) (end_of self.new).streams }
         ensures beside { beside_of self.new ≡ beside_of self.old }
     {
-        if !self.streams.was_given(id) {
+        if !self.was_given(id) {
             return Err(HandleError::ClosedStream);
         }
-        self.reset_given(id, error_code)
+        self.endpoint.reset(id, error_code)
     }
 
-    // The same, of a stream that was given.
-    fn reset_given(&mut self, id: StreamId, error_code: VarInt) -> Result<(), HandleError>
-        ensures resets { ResetsAt (end_of self.old) id error_code result (end_of self.new) }
-        ensures from { (m : Made) (h : List Event) → From m h (end_of self.old).streams → From m (Sending (ResetOwn id error_code result) ∷ h) (end_of self.new).streams }
-        ensures beside { beside_of self.new ≡ beside_of self.old }
-    {
-        let (streams, pending) = (&mut self.streams, &mut self.pending);
-        SendStream::new(id, streams, pending, self.conn).reset(error_code)
-    }
-
-    /// Sets the priority of a stream, as [`SendStream::set_priority`].
+    /// Sets the priority of a stream. Streams of a higher priority are sent first.
     pub fn set_priority(&mut self, id: StreamId, priority: i32) -> Result<(), HandleError>
         ensures sets { was_given (end_of self.old).streams id ≡ true → SetsPriorityAt (end_of self.old) id priority result (end_of self.new) }
         ensures unknown { was_given (end_of self.old).streams id ≡ false → (result ≡ Err HandleError.ClosedStream) × (end_of self.new ≡ end_of self.old) }
+        ensures memory { result ≡ Err HandleError.OutOfMemory → is_some ((end_of self.old).streams.out.halves id) ≡ true }
         ensures from { was_given (end_of self.old).streams id ≡ true → (m : Made) (h : List Event) → From m h (end_of self.old).streams → From m (Sending (SetOwnPriority id priority result) ∷ h) (end_of self.new).streams }
         ensures beside { beside_of self.new ≡ beside_of self.old }
     {
-        if !self.streams.was_given(id) {
+        if !self.was_given(id) {
             return Err(HandleError::ClosedStream);
         }
-        self.set_priority_given(id, priority)
+        self.endpoint.set_priority(id, priority)
     }
 
-    // The same, of a stream that was given.
-    fn set_priority_given(&mut self, id: StreamId, priority: i32) -> Result<(), HandleError>
-        ensures sets { SetsPriorityAt (end_of self.old) id priority result (end_of self.new) }
-        ensures from { (m : Made) (h : List Event) → From m h (end_of self.old).streams → From m (Sending (SetOwnPriority id priority result) ∷ h) (end_of self.new).streams }
-        ensures beside { beside_of self.new ≡ beside_of self.old }
-    {
-        let (streams, pending) = (&mut self.streams, &mut self.pending);
-        SendStream::new(id, streams, pending, self.conn).set_priority(priority)
-    }
-
-    /// The priority that was set last, as [`SendStream::priority`].
+    /// The priority of a stream: the one that was set last, 0 at first.
     pub fn priority(&mut self, id: StreamId) -> Result<i32, ClosedStream>
         ensures told { was_given (end_of self.old).streams id ≡ true → result ≡ told_of_half (λ s. s.priority) ((end_of self.old).streams.out.halves id) }
         ensures unknown { was_given (end_of self.old).streams id ≡ false → result ≡ Err (record {}) }
         ensures same { end_of self.new ≡ end_of self.old }
         ensures beside { beside_of self.new ≡ beside_of self.old }
     {
-        if !self.streams.was_given(id) {
+        if !self.was_given(id) {
             return Err(ClosedStream);
         }
-        let (streams, pending) = (&mut self.streams, &mut self.pending);
-        SendStream::new(id, streams, pending, self.conn).priority()
+        self.endpoint.priority(id)
     }
 
-    /// The code of the first STOP_SENDING that came for a stream, as [`SendStream::stopped`].
+    /// The code of the first STOP_SENDING that the peer sent for a stream (RFC 9000 section 19.5).
     pub fn stopped(&mut self, id: StreamId) -> Result<Option<VarInt>, ClosedStream>
         ensures told { was_given (end_of self.old).streams id ≡ true → result ≡ told_of_half (λ s. s.stop_reason) ((end_of self.old).streams.out.halves id) }
         ensures unknown { was_given (end_of self.old).streams id ≡ false → result ≡ Err (record {}) }
         ensures same { end_of self.new ≡ end_of self.old }
         ensures beside { beside_of self.new ≡ beside_of self.old }
     {
-        if !self.streams.was_given(id) {
+        if !self.was_given(id) {
             return Err(ClosedStream);
         }
-        let (streams, pending) = (&mut self.streams, &mut self.pending);
-        SendStream::new(id, streams, pending, self.conn).stopped()
+        self.endpoint.stopped(id)
     }
 
-    /// Stops a stream, as [`RecvStream::stop`], and queues MAX_STREAMS where it is due, unless memory ran out.
+    /// Stops the receive side of a stream (RFC 9000 section 3.5). MAX_STREAMS is queued if it is due.
     pub fn stop(&mut self, id: StreamId, error_code: VarInt) -> Result<(), HandleError>
         ensures stops { was_given (end_of self.old).streams id ≡ true → StopsReading (end_of self.old) id error_code result (end_of self.new) }
         ensures unknown { was_given (end_of self.old).streams id ≡ false → (result ≡ Err HandleError.ClosedStream) × (end_of self.new ≡ end_of self.old) }
         ensures from { was_given (end_of self.old).streams id ≡ true → (m : Made) (h : List Event) → From m h (end_of self.old).streams → From m (Stopped id error_code result ∷ h) (end_of self.new).streams }
         ensures beside { beside_of self.new ≡ beside_of self.old }
     {
-        if !self.streams.was_given(id) {
+        if !self.was_given(id) {
             return Err(HandleError::ClosedStream);
         }
-        self.stop_given(id, error_code)
+        self.endpoint.stop(id, error_code)
     }
 
-    // The same, of a stream that was given.
-    fn stop_given(&mut self, id: StreamId, error_code: VarInt) -> Result<(), HandleError>
-        ensures stops { StopsReading (end_of self.old) id error_code result (end_of self.new) }
-        ensures from { (m : Made) (h : List Event) → From m h (end_of self.old).streams → From m (Stopped id error_code result ∷ h) (end_of self.new).streams }
-        ensures beside { beside_of self.new ≡ beside_of self.old }
-    {
-        let answer = self.stop_stream(id, error_code);
-        self.tell_counts_if(is_handled(&answer));
-        answer
-    }
-
-    // The same, with what it queues itself.
-    fn stop_stream(&mut self, id: StreamId, error_code: VarInt) -> Result<(), HandleError>
-        ensures stops { Stops (end_of self.old).streams id error_code (end_of self.old).pending result (end_of self.new).streams (end_of self.new).pending }
-        ensures beside { beside_of self.new ≡ beside_of self.old }
-    {
-        let (streams, pending) = (&mut self.streams, &mut self.pending);
-        RecvStream::new(id, streams, pending).stop(error_code)
-    }
-
-    /// Asks for the code with which the peer gave a stream up, as [`RecvStream::received_reset`], and queues MAX_STREAMS
-    /// where it is due, unless memory ran out.
+    /// The code with which the peer reset a stream, if it did (RFC 9000 section 19.4). The first answer frees the stream, and
+    /// MAX_STREAMS is queued if it is due.
     pub fn received_reset(&mut self, id: StreamId) -> Result<Option<VarInt>, HandleError>
         ensures tells { was_given (end_of self.old).streams id ≡ true → TellsResetAt (end_of self.old) id result (end_of self.new) }
         ensures unknown { was_given (end_of self.old).streams id ≡ false → (result ≡ Err HandleError.ClosedStream) × (end_of self.new ≡ end_of self.old) }
         ensures from { was_given (end_of self.old).streams id ≡ true → (m : Made) (h : List Event) → From m h (end_of self.old).streams → From m (ToldReset id result ∷ h) (end_of self.new).streams }
         ensures beside { beside_of self.new ≡ beside_of self.old }
     {
-        if !self.streams.was_given(id) {
+        if !self.was_given(id) {
             return Err(HandleError::ClosedStream);
         }
-        self.tell_reset(id)
+        self.endpoint.received_reset(id)
     }
 
-    // The same, of a stream that was given.
-    fn tell_reset(&mut self, id: StreamId) -> Result<Option<VarInt>, HandleError>
-        ensures tells { TellsResetAt (end_of self.old) id result (end_of self.new) }
-        ensures from { (m : Made) (h : List Event) → From m h (end_of self.old).streams → From m (ToldReset id result ∷ h) (end_of self.new).streams }
-        ensures beside { beside_of self.new ≡ beside_of self.old }
-    {
-        let answer = self.take_reset(id);
-        self.tell_counts_if(is_handled(&answer));
-        answer
-    }
-
-    // The same, with what it queues itself.
-    fn take_reset(&mut self, id: StreamId) -> Result<Option<VarInt>, HandleError>
-        ensures tells { TellsReset (end_of self.old).streams id (end_of self.old).pending result (end_of self.new).streams (end_of self.new).pending }
-        ensures beside { beside_of self.new ≡ beside_of self.old }
-    {
-        let (streams, pending) = (&mut self.streams, &mut self.pending);
-        RecvStream::new(id, streams, pending).received_reset()
-    }
-
-    /// Reads a stream, as [`RecvStream::read_some`], and queues MAX_STREAMS where it is due, unless there was no memory to
-    /// open the reader.
+    /// Reads at most `times` chunks of a stream, each of at most `most` bytes, in order or as they were received.
+    /// MAX_STREAMS is queued if it is due.
     pub fn read(
         &mut self,
         id: StreamId,
         ordered: bool,
-        max_length: usize,
+        most: usize,
         times: u16,
     ) -> Result<ReadSome, ReadableError>
-        ensures reads { was_given (end_of self.old).streams id ≡ true → IfOk result (λ r. ReadsAt (end_of self.old) id max_length times ordered r.chunks.items r.last r.transmit.0 (end_of self.new)) }
+        ensures reads { was_given (end_of self.old).streams id ≡ true → IfOk result (λ r. ReadsAt (end_of self.old) id most times ordered r.chunks.items r.last r.transmit.0 (end_of self.new)) }
         ensures refused { was_given (end_of self.old).streams id ≡ true → IfErr result (λ error. RefusesRead (end_of self.old) id ordered error (end_of self.new)) }
         ensures unknown { was_given (end_of self.old).streams id ≡ false → (result ≡ Err ReadableError.ClosedStream) × (end_of self.new ≡ end_of self.old) }
         ensures from { was_given (end_of self.old).streams id ≡ true → IfOk result (λ r. (m : Made) (h : List Event) → From m h (end_of self.old).streams
-            → From m (with_reads id max_length ordered r.chunks.items r.last h) (end_of self.new).streams) }
+            → From m (with_reads id most ordered r.chunks.items r.last h) (end_of self.new).streams) }
         ensures from_refused { was_given (end_of self.old).streams id ≡ true → IfErr result (λ error. (m : Made) (h : List Event) → From m h (end_of self.old).streams
             → From m (Began id ordered (Err error) ∷ h) (end_of self.new).streams) }
         ensures beside { beside_of self.new ≡ beside_of self.old }
     {
-        if !self.streams.was_given(id) {
+        if !self.was_given(id) {
             return Err(ReadableError::ClosedStream);
         }
-        let list = Vec::new(self.alloc);
-        self.read_given(id, ordered, max_length, times, list)
-    }
-
-    // The same, of a stream that was given, in the memory of a list.
-    pub(crate) fn read_given(
-        &mut self,
-        id: StreamId,
-        ordered: bool,
-        max_length: usize,
-        times: u16,
-        list: Vec<Chunk>,
-    ) -> Result<ReadSome, ReadableError>
-        ensures reads { IfOk result (λ r. ReadsAt (end_of self.old) id max_length times ordered r.chunks.items r.last r.transmit.0 (end_of self.new)) }
-        ensures refused { IfErr result (λ error. RefusesRead (end_of self.old) id ordered error (end_of self.new)) }
-        ensures from { IfOk result (λ r. (m : Made) (h : List Event) → From m h (end_of self.old).streams
-            → From m (with_reads id max_length ordered r.chunks.items r.last h) (end_of self.new).streams) }
-        ensures from_refused { IfErr result (λ error. (m : Made) (h : List Event) → From m h (end_of self.old).streams
-            → From m (Began id ordered (Err error) ∷ h) (end_of self.new).streams) }
-        ensures beside { beside_of self.new ≡ beside_of self.old }
-        ensures lent { self.new.lent ≡ self.old.lent }
-    {
-        match self.read_stream(id, ordered, max_length, times, list) {
-            // The read queued MAX_STREAMS, if it was due.
-            Ok(some) => Ok(some),
-            Err(error) => {
-                self.tell_counts_if(not_for_memory(error));
-                Err(error)
-            }
-        }
-    }
-
-    // The same, with what it queues itself.
-    fn read_stream(
-        &mut self,
-        id: StreamId,
-        ordered: bool,
-        max_length: usize,
-        times: u16,
-        list: Vec<Chunk>,
-    ) -> Result<ReadSome, ReadableError>
-        ensures reads { IfOk result (λ r. ReadsSome (end_of self.old).streams id max_length times ordered (end_of self.old).pending r.chunks.items r.last r.transmit.0 (end_of self.new).streams (end_of self.new).pending) }
-        ensures refused { IfErr result (λ error. Begins (end_of self.old).streams id ordered (Err error) (end_of self.new).streams) }
-        ensures refused_pending { IfErr result (λ error. (end_of self.new).pending ≡ (end_of self.old).pending) }
-        ensures from { IfOk result (λ r. (m : Made) (h : List Event) → From m h (end_of self.old).streams
-            → From m (with_reads id max_length ordered r.chunks.items r.last h) (end_of self.new).streams) }
-        ensures from_refused { IfErr result (λ error. (m : Made) (h : List Event) → From m h (end_of self.old).streams
-            → From m (Began id ordered (Err error) ∷ h) (end_of self.new).streams) }
-        ensures beside { beside_of self.new ≡ beside_of self.old }
-        ensures lent { self.new.lent ≡ self.old.lent }
-    {
-        let (streams, pending) = (&mut self.streams, &mut self.pending);
-        RecvStream::new(id, streams, pending).read_some_into(ordered, max_length, times, list)
+        self.endpoint.read(id, ordered, most, times)
     }
 }
 
@@ -331,7 +217,6 @@ pub struct ReadInto {
     pub last: LastAnswer,
 }
 
-#[tactic(auto, unfolding(crate::specs::Sessions::end_of))]
 impl Session {
     /// Reads the next chunk of a stream, of at most as many bytes as `out` has, and puts it there.
     pub fn read_into(
@@ -343,11 +228,11 @@ impl Session {
         ensures reads { ReadsInto self.old id ordered out.old result self.new out.new }
         ensures beside { beside_of self.new ≡ beside_of self.old }
     {
-        if !self.streams.was_given(id) {
+        if !self.was_given(id) {
             return Err(ReadableError::ClosedStream);
         }
         let list = mem::replace(&mut self.chunks, Vec::new(self.alloc));
-        let some = self.read_given(id, ordered, out.len(), 1, list)?;
+        let some = self.endpoint.read_reusing(id, ordered, out.len(), 1, list)?;
         let read = put_chunk(&some, out);
         let mut list = some.chunks;
         put_chunks(&mut self.pieces, &mut list);
@@ -376,18 +261,4 @@ fn put_chunk(some: &ReadSome, out: &mut [u8]) -> ReadInto
         offset: chunk.offset,
         last: some.last,
     }
-}
-
-// Whether a call was not refused for lack of memory.
-fn is_handled<T>(answer: &Result<T, HandleError>) -> bool
-    ensures { result ≡ is_handled answer.now }
-{
-    !matches!(answer, Err(HandleError::OutOfMemory))
-}
-
-// Whether a reader was refused, and not for lack of memory.
-fn not_for_memory(error: ReadableError) -> bool
-    ensures { result ≡ not_for_memory error }
-{
-    !matches!(error, ReadableError::OutOfMemory)
 }

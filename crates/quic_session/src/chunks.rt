@@ -13,7 +13,6 @@ use quic_receiving::ReadableError;
 use quic_values::StreamId;
 use std::mem;
 
-#[tactic(auto, unfolding(crate::specs::Sessions::end_of))]
 impl Session {
     /// Reads the next bytes of a stream in order, of several chunks as they came, and puts them into `out`. One call may
     /// give bytes and tell that they are the last, or that no more are at hand.
@@ -21,13 +20,13 @@ impl Session {
         ensures reads { ReadsManyInto self.old id out.old result self.new out.new }
         ensures beside { beside_of self.new ≡ beside_of self.old }
     {
-        if !self.streams.was_given(id) {
+        if !self.was_given(id) {
             return Err(ReadableError::ClosedStream);
         }
         let list = mem::replace(&mut self.chunks, Vec::new(self.alloc));
         let times = chunks_for(out.len());
         let share = out.len() / times as usize;
-        let some = self.read_given(id, true, share, times, list)?;
+        let some = self.endpoint.read_reusing(id, true, share, times, list)?;
         let count = put_chunks(&some.chunks, out);
         let offset = offset_of_first(&some.chunks);
         let last = some.last;

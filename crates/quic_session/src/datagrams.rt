@@ -11,6 +11,9 @@ use quic_datagrams::{Datagrams, SendDatagramError};
 use quic_values::Bytes;
 use thiserror::Error;
 
+// How many bytes a datagram counts in the send buffer beside its length.
+const OVERHEAD: usize = 32;
+
 /// Why a datagram was not queued.
 #[derive(Clone, Copy, Debug, Error, PartialEq, Eq)]
 pub enum DatagramError {
@@ -40,7 +43,6 @@ pub enum DatagramEvent {
     Unblocked,
 }
 
-#[tactic(auto, unfolding(crate::specs::Sessions::end_of))]
 impl Session {
     /// Queues a datagram.
     pub fn send_datagram(&mut self, content: &[u8], drop_oldest: bool) -> Result<(), DatagramError>
@@ -114,12 +116,14 @@ impl Session {
     }
 
     /// The greatest length that can be queued now without a drop, if it is above 0.
-    pub fn datagram_send_space(&mut self) -> usize
-        ensures space { result ≡ self.old.limits.send - total_cost self.old.datagrams.outgoing - 32 }
-        ensures beside { beside_of self.new ≡ beside_of self.old }
-        ensures end { end_of self.new ≡ end_of self.old }
+    pub fn datagram_send_space(&self) -> usize
+        ensures space { result ≡ self.now.limits.send - total_cost self.now.datagrams.outgoing - 32 }
     {
-        Datagrams::new(&mut self.datagrams, self.limits).send_buffer_space()
+        let used = self.datagrams.outgoing.memory_used();
+        self.limits
+            .send
+            .saturating_sub(used)
+            .saturating_sub(OVERHEAD)
     }
 
     /// Sets the greatest length that the path and the peer take, and drops what waits and is longer.

@@ -10,7 +10,8 @@ ghost use Rattle.quic_session.specs.Emitting.{payload_of, writing_of, WritesCont
 use crate::buffer::Buffer;
 use crate::session::Session;
 use quic_datagrams::DatagramState;
-use quic_streams::{SentPayload, StreamMetaVec, ThinRetransmits};
+use quic_endpoint::Payload;
+use quic_streams::stats::FrameStats;
 use quic_values::OutOfMemory;
 use quic_wire::frame::Datagram;
 use quic_wire::memory::{is_kept, room_for};
@@ -35,39 +36,24 @@ pub struct Emitted {
     pub token: u64,
     /// Whether nothing may stand behind it in its packet: its last frame may be a STREAM frame without a length.
     pub ends: bool,
+    /// Whether memory ran out behind its last frame: more may be due than it has.
+    pub cut: bool,
     /// How many bytes.
     pub len: usize,
 }
 
-// A payload that is being written.
-#[derive(Drop)]
-pub(crate) struct Draft {
-    pub(crate) bytes: Vec<u8>,
-    pub(crate) sent: SentPayload,
-}
-
-impl Draft {
-    // One without frames, in the memory of one that was sent. That is made fit for so many bytes, if these are few and there
-    // is memory.
-    fn new(alloc: Global, memory: Vec<u8>, max_size: usize) -> Self
-        ensures { payload_of result ≡ record { bytes = []; control = nothing; streams = [] } }
-    {
-        let mut bytes = memory;
-        bytes.clear();
-        if bytes.capacity() < max_size && is_kept(max_size) {
-            let _ = bytes.reserve_exact(room_for(max_size));
-        }
-        Draft {
-            bytes,
-            sent: SentPayload {
-                streams: StreamMetaVec::new(alloc),
-                control: ThinRetransmits::new(alloc),
-            },
-        }
+// A payload without frames, in the memory of one that was sent. That is made fit for `max_size` bytes, if these are few and
+// there is memory.
+fn blank_payload(alloc: Global, memory: Vec<u8>, max_size: usize) -> Payload
+    ensures { payload_of result ≡ record { bytes = []; control = nothing; streams = [] } }
+{
+    let mut payload = Payload::reusing(alloc, memory);
+    if payload.bytes.capacity() < max_size && is_kept(max_size) {
+        let _ = payload.bytes.reserve_exact(room_for(max_size));
     }
+    payload
 }
 
-#[tactic(auto, unfolding(crate::specs::Sessions::end_of))]
 impl Session {
     /// Writes what is to be sent into `out`: of the parts that are named, control frames, then datagrams, then data.
     /// `None` where there was nothing. Where memory runs out, the frames that were written before are the payload, and
@@ -94,6 +80,7 @@ impl Session {
         ensures copied { out.new ≡ take result.len self.now.bytes.items ++ drop result.len out.old }
         ensures token { result.token ≡ emitted.token }
         ensures ends { result.ends ≡ emitted.ends }
+        ensures cut { result.cut ≡ emitted.cut }
     {
         let len = self.bytes.len().min(out.len());
         out[..len].copy_from_slice(&self.bytes[..len]);
@@ -114,14 +101,14 @@ impl Session {
     {
         self.unsettled.reserve()?;
         let memory = mem::replace(&mut self.bytes, Vec::new(self.alloc));
-        let mut draft = Draft::new(self.alloc, memory, max_size);
+        let mut draft = blank_payload(self.alloc, memory, max_size);
         let answer = self.write_parts(&mut draft, max_size, parts, fair);
         if draft.bytes.is_empty() {
             self.bytes = draft.bytes;
             answer?;
             return Ok(None);
         }
-        Ok(Some(self.lend(draft, max_size)))
+        Ok(Some(self.lend(draft, max_size, answer.is_err())))
     }
 
     /// The same for a payload that stands in a buffer then, which gets its memory for its own. The buffer stays where there is
@@ -155,20 +142,26 @@ impl Session {
     }
 
     // A payload is lent, and what is to be reported of it is kept under the next token.
-    fn lend(&mut self, draft: Draft, max_size: usize) -> Emitted
+    fn lend(&mut self, draft: Payload, max_size: usize, cut: bool) -> Emitted
         requires { 0 < places self.old.unsettled }
         ensures lent { IsLent max_size (payload_of draft) result self.new.bytes.items }
+        ensures cut { result.cut ≡ cut }
         ensures keeps { KeepsNew (unsettled self.old.unsettled) self.old.unsettled.next draft.sent result.token (unsettled self.new.unsettled) self.new.unsettled.next }
         ensures end { end_of self.new ≡ end_of self.old }
         ensures conn { self.new.conn ≡ self.old.conn }
         ensures datagrams { datagrams_view self.new ≡ datagrams_view self.old }
     {
-        let Draft { bytes, sent } = draft;
+        let Payload { bytes, sent } = draft;
         let len = bytes.len();
         self.bytes = bytes;
         let ends = len >= max_size && !sent.streams.is_empty();
         let token = self.unsettled.keep(sent);
-        Emitted { len, token, ends }
+        Emitted {
+            token,
+            ends,
+            cut,
+            len,
+        }
     }
 
     /// Where the payload that was written last stands.
@@ -181,7 +174,7 @@ impl Session {
     // Writes the parts one after another.
     fn write_parts(
         &mut self,
-        draft: &mut Draft,
+        draft: &mut Payload,
         max_size: usize,
         parts: Parts,
         fair: bool,
@@ -198,7 +191,7 @@ impl Session {
     // Writes the control frames, if they were asked for.
     fn write_control(
         &mut self,
-        draft: &mut Draft,
+        draft: &mut Payload,
         max_size: usize,
         asked: bool,
     ) -> Result<(), OutOfMemory>
@@ -208,19 +201,15 @@ impl Session {
         if !asked {
             return Ok(());
         }
-        self.streams.write_control_frames(
-            &mut draft.bytes,
-            &mut self.pending,
-            &mut draft.sent.control,
-            &mut self.counters,
-            max_size,
-        )
+        // The host is not told how many frames of each kind there are.
+        let mut counters = FrameStats::new();
+        self.endpoint.write_control(draft, &mut counters, max_size)
     }
 
     // Writes the datagrams that fit, if they were asked for.
     fn write_datagrams(
         &mut self,
-        draft: &mut Draft,
+        draft: &mut Payload,
         max_size: usize,
         asked: bool,
     ) -> Result<(), OutOfMemory>
@@ -252,7 +241,7 @@ impl Session {
     // Writes data of streams, if they were asked for.
     fn write_streams(
         &mut self,
-        draft: &mut Draft,
+        draft: &mut Payload,
         max_size: usize,
         fair: bool,
         asked: bool,
@@ -263,8 +252,7 @@ impl Session {
         if !asked {
             return Ok(());
         }
-        self.streams
-            .write_stream_frames(&mut draft.bytes, &mut draft.sent.streams, max_size, fair)
+        self.endpoint.write_streams(draft, max_size, fair)
     }
 }
 

@@ -23,7 +23,6 @@ impl LentBytes {
     }
 }
 
-#[tactic(auto, unfolding(crate::specs::Sessions::end_of))]
 impl Session {
     /// Reads the next bytes of a stream in order, of at most `most` chunks as they came, and of at most 64. They are lent:
     /// they stay in their memory, at [`Session::lent_bytes`], until the next call. The answer counts the chunks. One call
@@ -32,7 +31,7 @@ impl Session {
         ensures reads { ReadsLent self.old id most result self.new }
         ensures beside { beside_of self.new ≡ beside_of self.old }
     {
-        if !self.streams.was_given(id) {
+        if !self.was_given(id) {
             return Err(ReadableError::ClosedStream);
         }
         self.take_back();
@@ -41,7 +40,9 @@ impl Session {
             return Err(ReadableError::OutOfMemory);
         }
         let list = mem::replace(&mut self.chunks, Vec::new(self.alloc));
-        let some = self.read_given(id, true, usize::MAX, times, list)?;
+        let some = self
+            .endpoint
+            .read_reusing(id, true, usize::MAX, times, list)?;
         let offset = offset_of_first(&some.chunks);
         let last = some.last;
         self.chunks = lend_all(some.chunks, &mut self.lent);

@@ -1,21 +1,23 @@
 //! Frames and payloads of the peer that come to a session.
 
-ghost use Rattle.std.specs.Prelude.{List, ◌≡◌, ◌≤◌, ◌∷◌, ◌&&◌, true, false, not, max, length, take, All, OnOk, IfOk, IfErr, IsErrOf, Some};
-ghost use Rattle.quic_wire.specs.Codes.{STREAM_STATE_ERROR};
+ghost use Rattle.std.specs.Prelude.{List, ◌≡◌, ◌≤◌, ◌∷◌, ◌&&◌, true, false, not, nat_le, max, length, take, All, OnOk, IfOk, IfErr, IsErrOf, Some, None};
+ghost use Rattle.quic_values.specs.Ids.{dir_of, index_of};
+ghost use Rattle.quic_wire.specs.Codes.{STREAM_LIMIT_ERROR};
 ghost use Rattle.quic_wire.specs.declared.frame.Frame.{Frame as FrameValue};
 ghost use Rattle.quic_wire.specs.Frames.{AreFrames, IsFrameWithin};
 ghost use Rattle.quic_wire.specs.Reading.{ReadsAs};
-ghost use Rattle.quic_history.specs.World.{Made};
+ghost use Rattle.quic_history.specs.Sends.{sending_refusal};
+ghost use Rattle.quic_history.specs.World.{Made, remote_of};
 ghost use Rattle.quic_history.specs.History.{Event, From};
-ghost use Rattle.quic_endpoint.specs.Receiving.{data_length, event_of, with_call_made, MakesCall, MayAnswer, with_answer_told, ReceivesAt, AccountsFrame};
-ghost use Rattle.quic_session.specs.Sessions.{end_of, datagrams_view, beside_of};
-ghost use Rattle.quic_session.specs.Receiving.{KeepsDatagram, ReceivesFrame, ReceivesOnly, ReceivesPayload, ReceivesFrames, ReceivesFrom, payload_answer, is_misdirected, call_of};
+ghost use Rattle.quic_endpoint.specs.Receiving.{data_length, with_call_made};
+ghost use Rattle.quic_session.specs.Sessions.{end_of, datagrams_view};
+ghost use Rattle.quic_session.specs.Receiving.{KeepsDatagram, ReceivesFrame, ReceivesOnly, ReceivesPayload, ReceivesFrames, ReceivesFrom, payload_answer, blocked_refusal, direction_refusal, call_of};
 
 use crate::buffer::Buffer;
 use crate::session::Session;
 use quic_receiving::ShouldTransmit;
-use quic_values::{Bytes, Dir, OutOfMemory};
-use quic_wire::frame::{Datagram, StopSending};
+use quic_values::{Bytes, Dir, OutOfMemory, StreamId};
+use quic_wire::frame::Datagram;
 use quic_wire::memory::is_fit;
 use quic_wire::{DecodeError, Frame, ReceiveError, TransportError, decode_owned_reusing};
 use std::mem;
@@ -44,7 +46,6 @@ pub struct Received {
     pub answer: Result<(), PayloadError>,
 }
 
-#[tactic(auto, unfolding(crate::specs::Sessions::end_of))]
 impl Session {
     /// Takes a whole payload (RFC 9000 section 12.4), from the frame at place `first` on, until one is refused. Where
     /// memory ran out, the call can be made again from the frame that was refused.
@@ -177,9 +178,12 @@ impl Session {
 
     /// Takes a frame of the peer that came in a payload of so many bytes (RFC 9000 section 19): data, a reset, a stop and
     /// limits are handed to the streams, a datagram is kept, any other frame changes nothing. Where the answer asks for
-    /// MAX_DATA it is queued, and MAX_STREAMS where it is due, unless memory ran out. STOP_SENDING for a stream on which
-    /// only the peer sends, or for one of this end that is not open, is refused with STREAM_STATE_ERROR (section 19.5), and
-    /// so is STREAM_DATA_BLOCKED for a stream on which only this end sends (section 19.13).
+    /// MAX_DATA it is queued, and MAX_STREAMS where it is due, unless memory ran out.
+    ///
+    /// A frame that names a stream on which the peer may not send it is an error, and nothing changes.
+    /// STREAM_STATE_ERROR: STOP_SENDING for a stream on which only the peer sends, or for one of this endpoint that is not
+    /// open (section 19.5); STREAM_DATA_BLOCKED for a stream on which only this endpoint sends (section 19.13).
+    /// STREAM_LIMIT_ERROR: either of them for a stream of the peer beyond the limit that was advertised (section 4.6).
     pub fn receive_frame(
         &mut self,
         frame: Frame,
@@ -194,45 +198,66 @@ impl Session {
             Frame::Datagram(datagram) => self.receive_datagram(datagram),
             frame => match self.validate_direction(&frame) {
                 Err(error) => Err(ReceiveError::Transport(error)),
-                Ok(()) => self.receive_stream_frame(frame, payload_len),
+                Ok(()) => self.endpoint.receive(frame, payload_len),
             },
         }
     }
 
-    // The error of a frame for a stream on which it may not be sent.
+    // The error of a frame that names a stream on which the peer may not send it.
     fn validate_direction(&self, frame: &Frame) -> Result<(), TransportError>
-        ensures ok { OnOk result (is_misdirected (end_of self.now).streams frame.now ≡ false) }
-        ensures err { IfErr result (λ error. (is_misdirected (end_of self.now).streams frame.now ≡ true) × (error.code ≡ STREAM_STATE_ERROR)) }
+        ensures ok { OnOk result (direction_refusal (end_of self.now).streams frame.now ≡ None) }
+        ensures err { IfErr result (λ error. direction_refusal (end_of self.now).streams frame.now ≡ Some error.code) }
     {
         match frame {
-            Frame::StopSending(frame) => self.validate_stop(frame),
-            Frame::StreamDataBlocked { id, .. } => {
-                if self.streams.is_own(*id) && matches!(id.dir(), Dir::Uni) {
-                    return Err(TransportError::stream_state_error(
-                        "STREAM_DATA_BLOCKED on send-only stream",
-                    ));
-                }
-                Ok(())
-            }
+            Frame::StopSending(frame) => self.validate_stop(frame.id),
+            Frame::StreamDataBlocked { id, .. } => self.validate_blocked(*id),
             _ => Ok(()),
         }
     }
 
-    // The same of STOP_SENDING.
-    fn validate_stop(&self, frame: &StopSending) -> Result<(), TransportError>
-        ensures ok { OnOk result (is_misdirected (end_of self.now).streams (Frame.StopSending frame.now) ≡ false) }
-        ensures err { IfErr result (λ error. (is_misdirected (end_of self.now).streams (Frame.StopSending frame.now) ≡ true) × (error.code ≡ STREAM_STATE_ERROR)) }
+    // The error of STOP_SENDING for a stream (RFC 9000 sections 4.6 and 19.5).
+    fn validate_stop(&self, id: StreamId) -> Result<(), TransportError>
+        ensures ok { OnOk result (sending_refusal (end_of self.now).streams id ≡ None) }
+        ensures err { IfErr result (λ error. sending_refusal (end_of self.now).streams id ≡ Some error.code) }
     {
-        if self.streams.is_own(frame.id) {
-            if self.streams.is_local_unopened(frame.id) {
+        let streams = self.endpoint.streams();
+        if streams.is_own(id) {
+            if streams.is_local_unopened(id) {
                 return Err(TransportError::stream_state_error("STOP_SENDING on unopened stream"));
             }
             return Ok(());
         }
-        match frame.id.dir() {
+        match id.dir() {
             Dir::Uni => Err(TransportError::stream_state_error("STOP_SENDING on recv-only stream")),
+            Dir::Bi => self.validate_limit(id),
+        }
+    }
+
+    // The error of STREAM_DATA_BLOCKED for a stream (RFC 9000 sections 4.6 and 19.13).
+    fn validate_blocked(&self, id: StreamId) -> Result<(), TransportError>
+        ensures ok { OnOk result (blocked_refusal (end_of self.now).streams id ≡ None) }
+        ensures err { IfErr result (λ error. blocked_refusal (end_of self.now).streams id ≡ Some error.code) }
+    {
+        if !self.endpoint.streams().is_own(id) {
+            return self.validate_limit(id);
+        }
+        match id.dir() {
+            Dir::Uni => Err(TransportError::stream_state_error(
+                "STREAM_DATA_BLOCKED on send-only stream",
+            )),
             Dir::Bi => Ok(()),
         }
+    }
+
+    // The error of a stream of the peer beyond the limit that was advertised (RFC 9000 section 4.6).
+    fn validate_limit(&self, id: StreamId) -> Result<(), TransportError>
+        ensures ok { OnOk result (nat_le (remote_of (end_of self.now).streams (dir_of id)).max_remote (index_of id) ≡ false) }
+        ensures err { IfErr result (λ error. (nat_le (remote_of (end_of self.now).streams (dir_of id)).max_remote (index_of id) ≡ true) × (error.code ≡ STREAM_LIMIT_ERROR)) }
+    {
+        if id.index() >= self.endpoint.streams().max_remote(id.dir()) {
+            return Err(TransportError::stream_limit_error(""));
+        }
+        Ok(())
     }
 
     // Takes a datagram (RFC 9221 section 4).
@@ -254,87 +279,6 @@ impl Session {
     {
         if was_empty {
             self.told_received = false;
-        }
-    }
-
-    // Takes a frame that is no datagram.
-    fn receive_stream_frame(
-        &mut self,
-        frame: Frame,
-        payload_len: usize,
-    ) -> Result<ShouldTransmit, ReceiveError>
-        requires { data_length frame ≤ payload_len }
-        ensures receives { ReceivesAt (end_of self.old) frame result (end_of self.new) }
-        ensures accounts { AccountsFrame (end_of self.old).streams frame payload_len result (end_of self.new).streams }
-        ensures from { (m : Made) (h : List Event) → From m h (end_of self.old).streams → From m (with_call_made (call_of frame result) h) (end_of self.new).streams }
-        ensures beside { beside_of self.new ≡ beside_of self.old }
-    {
-        let answer = self.take_frame(frame, payload_len);
-        self.tell_answer(&answer);
-        answer
-    }
-
-    // The same, but for what is queued.
-    fn take_frame(
-        &mut self,
-        frame: Frame,
-        payload_len: usize,
-    ) -> Result<ShouldTransmit, ReceiveError>
-        requires { data_length frame ≤ payload_len }
-        ensures accounts { AccountsFrame (end_of self.old).streams frame payload_len result (end_of self.new).streams }
-        ensures call { MakesCall (end_of self.old).streams (event_of frame result) (end_of self.new).streams }
-        ensures pending { (end_of self.new).pending ≡ (end_of self.old).pending }
-        ensures may { MayAnswer frame result }
-        ensures beside { beside_of self.new ≡ beside_of self.old }
-    {
-        match frame {
-            Frame::Stream(frame) => self.streams.received(frame, payload_len),
-            Frame::ResetStream(frame) => self.streams.received_reset(frame),
-            Frame::StopSending(frame) => self.take_stop(&frame),
-            Frame::MaxData(limit) => {
-                self.streams.received_max_data(limit);
-                Ok(ShouldTransmit(false))
-            }
-            Frame::MaxStreamData { id, offset } => {
-                self.streams.received_max_stream_data(id, offset)?;
-                Ok(ShouldTransmit(false))
-            }
-            Frame::MaxStreams { dir, count } => {
-                self.streams.received_max_streams(dir, count)?;
-                Ok(ShouldTransmit(false))
-            }
-            _ => Ok(ShouldTransmit(false)),
-        }
-    }
-
-    // STOP_SENDING is handed to the streams.
-    fn take_stop(&mut self, frame: &StopSending) -> Result<ShouldTransmit, ReceiveError>
-        ensures call { MakesCall (end_of self.old).streams (event_of (Frame.StopSending frame.now) result) (end_of self.new).streams }
-        ensures pending { (end_of self.new).pending ≡ (end_of self.old).pending }
-        ensures may { MayAnswer (Frame.StopSending frame.now) result }
-        ensures beside { beside_of self.new ≡ beside_of self.old }
-    {
-        match self
-            .streams
-            .received_stop_sending(frame.id, frame.error_code)
-        {
-            Ok(()) => Ok(ShouldTransmit(false)),
-            Err(_) => Err(ReceiveError::OutOfMemory),
-        }
-    }
-
-    // What an answer asks for is queued.
-    fn tell_answer(&mut self, answer: &Result<ShouldTransmit, ReceiveError>)
-        ensures told { end_of self.new ≡ with_answer_told answer.now (end_of self.old) }
-        ensures beside { beside_of self.new ≡ beside_of self.old }
-    {
-        match answer {
-            Err(ReceiveError::OutOfMemory) => {}
-            Err(_) => self.tell_counts_if(true),
-            Ok(transmit) => {
-                self.pending.queue_max_data(transmit.should_transmit());
-                self.tell_counts_if(true);
-            }
         }
     }
 }

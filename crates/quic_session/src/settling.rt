@@ -12,7 +12,7 @@ ghost use Rattle.quic_session.specs.Settling.{AcksToken, LosesToken, SettlesOnly
 ghost use Rattle.quic_session.specs.Tokens.{unsettled, with_payload, payload_count, HasPlaceFor};
 
 use crate::session::Session;
-use quic_streams::{Retransmits, SentPayload};
+use quic_streams::SentPayload;
 use quic_values::OutOfMemory;
 use thiserror::Error;
 
@@ -27,7 +27,6 @@ pub enum SettleError {
     OutOfMemory,
 }
 
-#[tactic(auto, unfolding(crate::specs::Sessions::end_of))]
 impl Session {
     /// A payload was acknowledged (RFC 9000 section 13.3).
     pub fn acked(&mut self, token: u64) -> Result<(), SettleError>
@@ -37,11 +36,8 @@ impl Session {
         let Some(payload) = self.unsettled.take(token) else {
             return Err(SettleError::UnknownToken);
         };
-        match self.streams.acked(payload) {
-            Ok(()) => {
-                self.tell_counts_if(true);
-                Ok(())
-            }
+        match self.endpoint.acknowledge(payload) {
+            Ok(()) => Ok(()),
             Err(rest) => Err(self.put_rest_back(token, rest)),
         }
     }
@@ -54,7 +50,7 @@ impl Session {
         let Some(payload) = self.unsettled.take(token) else {
             return Err(SettleError::UnknownToken);
         };
-        match self.streams.lost(payload, &mut self.pending) {
+        match self.endpoint.lose(payload) {
             Ok(()) => Ok(()),
             Err(rest) => Err(self.put_rest_back(token, rest)),
         }
@@ -87,8 +83,7 @@ impl Session {
         ensures payloads { unsettled self.new.unsettled ≡ (λ token. None) }
         ensures others { SettlesOnly self.old self.new }
     {
-        self.streams.zero_rtt_rejected();
-        self.pending = Retransmits::new(self.alloc);
+        self.endpoint.zero_rtt_rejected();
         self.unsettled.clear(self.alloc);
     }
 
@@ -101,6 +96,6 @@ impl Session {
             → SendsAgain (end_of self.old).streams result (end_of self.new).streams × From m (SentAgain result ∷ h) (end_of self.new).streams }
         ensures beside { beside_of self.new ≡ beside_of self.old }
     {
-        self.streams.retransmit_all_for_0rtt()
+        self.endpoint.retransmit_all_for_0rtt()
     }
 }

@@ -114,6 +114,11 @@ abbrev pub TellsWrite : Result ℕ WriteError → ℤ → ℕ → ℕ → ℕ �
 TellsWrite (Ok n) code was now app app' = (code ≡ pos 0) × (now ≡ n) × (app' ≡ app)
 TellsWrite (Err error) code was now app app' = (code ≡ write_code error) × (now ≡ was) × (app' ≡ write_stop error app)
 
+-- a write that is blocked on a stream which the peer stopped counts as stopped
+abbrev pub stopped_first : Result ℕ WriteError → Result (Option ℕ) ClosedStream → Result ℕ WriteError
+stopped_first (Err write_error.Blocked) (Ok (Some code)) = Err (write_error.Stopped code)
+stopped_first answer stop = answer
+
 -- that a stream was ended, or why not
 abbrev pub TellsFinish : Result (Unit {0}) FinishError → ℤ → ℕ → ℕ → Type 0
 TellsFinish (Ok x) code app app' = (code ≡ pos 0) × (app' ≡ app)

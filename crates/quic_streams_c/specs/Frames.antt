@@ -1,5 +1,5 @@
 -- Frames and payloads that C hands in.
-use Rattle.std.specs.Prelude.{ℕ, ℤ, pos, negsuc, ◌≡◌, ◌⊎◌, ◌==◌, ◌++◌, max, min, not, List, length, take, drop, replicate, Result, Ok, Err, codes}
+use Rattle.std.specs.Prelude.{ℕ, ℤ, Bool, true, false, nat_lt, pos, negsuc, ◌≡◌, ◌⊎◌, ◌==◌, ◌++◌, max, min, not, List, length, take, drop, replicate, Result, Ok, Err, codes}
 use Rattle.quic_wire.specs.declared.frame.Frame.{Frame}
 use Rattle.quic_wire.specs.declared.frame.Frame.TheVariants as frames
 use Rattle.quic_wire.specs.declared.error.ReceiveError.{ReceiveError}
@@ -9,11 +9,14 @@ use Rattle.quic_history.specs.World.{Made}
 use Rattle.quic_history.specs.History.{Event, From}
 use Rattle.quic_endpoint.specs.Receiving.{data_length, with_call_made}
 use Rattle.quic_session.specs.declared.session.Session.{Session}
-use Rattle.quic_session.specs.declared.receiving.Received.{Received}
+use Rattle.quic_session.specs.declared.processing.Progress.{Progress}
+use Rattle.quic_session.specs.declared.processing.Halt.{Halt}
+use Rattle.quic_session.specs.declared.processing.Halt.TheVariants as halt
 use Rattle.quic_session.specs.declared.receiving.PayloadError.{PayloadError}
 use Rattle.quic_session.specs.declared.receiving.PayloadError.TheVariants as payload_error
 use Rattle.quic_session.specs.Sessions.{end_of}
-use Rattle.quic_session.specs.Receiving.{ReceivesFrame, ReceivesOnly, ReceivesPayload, call_of}
+use Rattle.quic_session.specs.Receiving.{ReceivesFrame, ReceivesOnly, call_of}
+use Rattle.quic_session.specs.Processing.{Processes}
 use Rattle.quic_streams_c.specs.declared.peer.RawError.{RawError}
 use Rattle.quic_streams_c.specs.Calls.{Refuses, WithNumber}
 use Rattle.quic_streams_c.specs.Numbers.{small, dir_at}
@@ -81,17 +84,26 @@ HandsMaxStreams s dir count code t was now = WithNumber (dir_at dir) (Denies s c
 abbrev pub HandsDatagram : Session → List ℕ → ℤ → Session → RawError → RawError → Type 0
 HandsDatagram s bytes code t was now = CopiesNone s code t was now ⊎ HandsFrame s (frames.Datagram (record { bytes = bytes })) 0 code t was now
 
--- what C is told of a payload
-abbrev pub TellsReceived : Result (Unit {0}) PayloadError → ℤ → RawError → RawError → Type 0
-TellsReceived (Ok x) code was now = (code ≡ pos 0) × (now ≡ was)
+-- what C is told of a payload: that all of it was processed, or that the host processes the next frame, or why no more was
+abbrev pub TellsReceived : Result Halt PayloadError → ℤ → RawError → RawError → Type 0
+TellsReceived (Ok halt.End) code was now = (code ≡ pos 0) × (now ≡ was)
+TellsReceived (Ok halt.OtherFrame) code was now = (code ≡ pos 3) × (now ≡ was)
 TellsReceived (Err payload_error.Malformed) code was now = (code ≡ negsuc 10) × IsTold 7 (codes "malformed frame") now
 TellsReceived (Err (payload_error.Transport error)) code was now = (code ≡ negsuc 9) × IsTold error.code error.reason.now now
 TellsReceived (Err payload_error.OutOfMemory) code was now = (code ≡ negsuc 1) × (now ≡ was)
 
--- qs_receive
-pub record ReceivesRaw (s : Session) (payload : List ℕ) (first : ℕ) (code : ℤ) (t : Session) (next : ℕ) (was now : RawError) : Type 0 where
-  pub received : Received
-  pub receives : ReceivesPayload s payload first received t
+-- a payload is processed from an offset on
+pub record ProcessesRaw (s : Session) (payload : List ℕ) (first : ℕ) (code : ℤ) (t : Session) (next : ℕ) (was now : RawError) : Type 0 where
+  pub progress : Progress
+  pub processes : Processes s payload first progress t
   pub others : ReceivesOnly s t
-  pub next_is : next ≡ received.next
-  pub tells : TellsReceived received.answer code was now
+  pub next_is : next ≡ progress.next
+  pub tells : TellsReceived progress.answer code was now
+
+-- qs_receive: an offset behind the payload is refused
+abbrev pub ReceivesRaw : Session → List ℕ → ℕ → ℤ → Session → ℕ → RawError → RawError → Type 0
+ReceivesRaw s payload first code t next was now = by-offset (nat_lt (length payload) first)
+  where
+    by-offset : Bool → Type 0
+    by-offset true = Refuses s code t × (next ≡ first) × (now ≡ was)
+    by-offset false = ProcessesRaw s payload first code t next was now

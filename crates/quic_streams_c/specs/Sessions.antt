@@ -1,5 +1,5 @@
 -- What the calls of a session promise, as relations between the sessions before and after.
-use Rattle.std.specs.Prelude.{ℕ, ℤ, ◌≡◌, ◌∷◌, List, true, false, Option, Result, Err}
+use Rattle.std.specs.Prelude.{ℕ, ℤ, ◌≡◌, ◌∷◌, List, true, false, if◌then◌else◌, Option, Result, Err}
 use Rattle.quic_values.specs.declared.memory.OutOfMemory.{OutOfMemory}
 use Rattle.quic_values.specs.declared.ids.Dir.{Dir}
 use Rattle.quic_sending.specs.declared.send.WriteError.{WriteError}
@@ -75,6 +75,10 @@ SessionTellsReset s id answer t = OnStream s id answer handle_error.ClosedStream
 abbrev pub SessionTellsPriority : Session → ℕ → Result ℤ ClosedStream → Session → Type 0
 SessionTellsPriority s id answer t = (was_given (end_of s).streams id ≡ true → answer ≡ told_of_half (λ h. h.priority) ((end_of s).streams.out.halves id))
     × (was_given (end_of s).streams id ≡ false → answer ≡ Err (record {})) × (end_of t ≡ end_of s) × (beside_of t ≡ beside_of s)
+
+-- the code of the peer's STOP_SENDING for a stream, as qs_stream_stopped returns it
+abbrev pub stop_of : Session → ℕ → Result (Option ℕ) ClosedStream
+stop_of s id = if was_given (end_of s).streams id then told_of_half (λ h. h.stop_reason) ((end_of s).streams.out.halves id) else Err (record {})
 
 -- the code with which the peer stopped one
 abbrev pub SessionTellsStop : Session → ℕ → Result (Option ℕ) ClosedStream → Session → Type 0

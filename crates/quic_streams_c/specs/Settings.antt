@@ -1,5 +1,5 @@
 -- What C sets of a session, and asks of it.
-use Rattle.std.specs.Prelude.{ℕ, ℤ, Bool, pos, negsuc, ◌≡◌, ◌⊎◌, ◌==◌, ◌^◌, ◌<◌, ◌≤◌, not, nat_lt, is_some, if◌then◌else◌, List, [], ◌∷◌, length, Option, Some, None, Result, Ok, Err}
+use Rattle.std.specs.Prelude.{ℕ, ℤ, Bool, false, pos, negsuc, ◌≡◌, ◌⊎◌, ◌==◌, ◌^◌, ◌<◌, ◌≤◌, not, nat_lt, is_some, if◌then◌else◌, List, [], ◌∷◌, length, Option, Some, None, IsOk, OnErr, Result, Ok, Err}
 use Rattle.std.specs.List.{list_any}
 use Rattle.quic_values.specs.declared.memory.OutOfMemory.{OutOfMemory}
 use Rattle.quic_values.specs.declared.ids.Side.{Side}
@@ -22,6 +22,7 @@ use Rattle.quic_streams.specs.declared.streams.ConnState.TheVariants as conn_sta
 use Rattle.quic_endpoint.specs.Ends.{with_world, with_window_set, SetsConcurrentAt}
 use Rattle.quic_session.specs.declared.session.Session.{Session}
 use Rattle.quic_session.specs.declared.session.Config.{Config}
+use Rattle.quic_session.specs.Params.{are_stream_limits}
 use Rattle.quic_session.specs.Sessions.{end_of, datagrams_view, beside_of, with_datagrams, no_datagrams, with_max}
 use Rattle.quic_session.specs.Tokens.{unsettled, payload_count}
 use Rattle.quic_session.specs.Settling.{SettlesOnly}
@@ -72,6 +73,7 @@ pub record IsNewOf (c : Config) (s : Session) : Type 0 where
   pub conn : s.conn ≡ conn_state.Open
   pub datagrams : datagrams_view s ≡ no_datagrams c.datagrams
   pub payloads : unsettled s.unsettled ≡ (λ token. None)
+  pub token : s.unsettled.next ≡ 1
 
 -- a session is made, unless a number is above its bound or memory runs out
 pub record MakesNew (r : RawConfig) (code : ℤ) (new : Option Session) : Type 0 where
@@ -115,10 +117,21 @@ abbrev pub TakesLimitsOrNone : Session → RawLimits → Result (Unit {0}) OutOf
 TakesLimitsOrNone s r (Ok x) t = TakesLimits s r t
 TakesLimitsOrNone s r (Err e) t = Unchanged s t × GoesOn s (Sending (GaveLimits (peer_limits r) (Err e))) t
 
+-- no memory is taken where this end opened no stream
+abbrev pub IsFreeOf : Session → Result (Unit {0}) OutOfMemory → Type 0
+IsFreeOf s answer = (end_of s).streams.out.own_bi.opened ≡ 0 → (end_of s).streams.out.own_uni.opened ≡ 0 → IsOk answer
+
+-- nothing changes for stream limits above 2^60 (RFC 9000 section 18.2)
+pub record RefusesLimits (s : Session) (r : RawLimits) (code : ℤ) (t : Session) : Type 0 where
+  pub above : are_stream_limits (peer_limits r) ≡ false
+  pub is : code ≡ negsuc 2
+  pub same : Unchanged s t
+
 -- qs_set_peer_limits
 abbrev pub SetsLimits : Session → RawLimits → ℤ → Session → Type 0
 SetsLimits s r code t = (Refuses s code t × ((AreLimits r) → ⊥))
-    ⊎ (AreLimits r × (answer : Result (Unit {0}) OutOfMemory) × TakesLimitsOrNone s r answer t × TellsDone memory_code answer code)
+    ⊎ (AreLimits r × (answer : Result (Unit {0}) OutOfMemory) × TakesLimitsOrNone s r answer t × IsFreeOf s answer × TellsDone memory_code answer code)
+    ⊎ (AreLimits r × RefusesLimits s r code t)
 
 -- qs_conn_close
 abbrev pub Closes : Session → ℤ → Session → Type 0
@@ -138,6 +151,7 @@ pub record SendsEarlyAgain (s : Session) (code : ℤ) (t : Session) : Type 0 whe
   pub answer : Result (Unit {0}) OutOfMemory
   pub sends : NoneAcked (end_of s).streams.out.side (end_of s).streams.out.halves → SendsAgain (end_of s).streams answer (end_of t).streams
   pub unanswered : (m : Made) (h : List Event) → IsUnanswered h → From m h (end_of s).streams → SendsAgain (end_of s).streams answer (end_of t).streams × From m (SentAgain answer ∷ h) (end_of t).streams
+  pub refused : OnErr answer (end_of t ≡ end_of s)
   pub pending : (end_of t).pending ≡ (end_of s).pending
   pub beside : beside_of t ≡ beside_of s
   pub tells : TellsDone memory_code answer code

@@ -10,10 +10,10 @@ use Rattle.quic_session.specs.declared.session.Session.{Session}
 use Rattle.quic_session.specs.declared.application.ReadInto.{ReadInto}
 use Rattle.quic_session.specs.Sessions.{beside_of}
 use Rattle.quic_session.specs.Reading.{ReadsInto, ReadsManyInto}
-use Rattle.quic_streams_c.specs.Answers.{memory_code, handle_code, closed_code, TellsDone, TellsSigned, TellsSome, TellsOption, TellsWrite, TellsFinish, TellsRead, TellsMany}
+use Rattle.quic_streams_c.specs.Answers.{memory_code, handle_code, closed_code, TellsDone, TellsSigned, TellsSome, TellsOption, stopped_first, TellsWrite, TellsFinish, TellsRead, TellsMany}
 use Rattle.quic_streams_c.specs.Calls.{Refuses, WithNumber}
 use Rattle.quic_streams_c.specs.Numbers.{small, dir_at}
-use Rattle.quic_streams_c.specs.Sessions.{SessionOpens, SessionAccepts, SessionWrites, SessionFinishes, SessionResets, SessionStops, SessionSetsPriority, SessionTellsPriority, SessionTellsStop, SessionTellsReset}
+use Rattle.quic_streams_c.specs.Sessions.{SessionOpens, SessionAccepts, SessionWrites, SessionFinishes, SessionResets, SessionStops, SessionSetsPriority, SessionTellsPriority, stop_of, SessionTellsStop, SessionTellsReset}
 
 -- qs_stream_open
 abbrev pub OpensRaw : Session → ℕ → ℤ → Session → ℕ → ℕ → Type 0
@@ -25,10 +25,11 @@ abbrev pub AcceptsRaw : Session → ℕ → ℤ → Session → ℕ → ℕ → 
 AcceptsRaw s dir code t was now = WithNumber (dir_at dir) (Refuses s code t × (now ≡ was)) (λ d.
     (answer : Option ℕ) × SessionAccepts s d answer t × TellsOption answer (pos 1) code was now)
 
--- qs_stream_write
+-- qs_stream_write: the session's write, and where that is blocked, the peer's STOP_SENDING comes before it. No credit lets more
+-- be written on a stopped stream, so the host has to learn of the stop also while there is no credit
 abbrev pub WritesRaw : Session → ℕ → List ℕ → ℤ → Session → ℕ → ℕ → ℕ → ℕ → Type 0
 WritesRaw s id bytes code t was now app app' = WithNumber (small id) (Refuses s code t × (now ≡ was) × (app' ≡ app)) (λ i.
-    (answer : Result ℕ WriteError) × SessionWrites s i bytes answer t × TellsWrite answer code was now app app')
+    (answer : Result ℕ WriteError) × SessionWrites s i bytes answer t × TellsWrite (stopped_first answer (stop_of t i)) code was now app app')
 
 -- qs_stream_finish
 abbrev pub FinishesRaw : Session → ℕ → ℤ → Session → ℕ → ℕ → Type 0

@@ -1,8 +1,9 @@
 //! The calls of an application on streams.
 
 ghost use Rattle.std.specs.Prelude.{◌≡◌, pos, true, false};
-ghost use Rattle.quic_streams_c.specs.Answers.{memory_code, handle_code, closed_code, TellsDone, TellsSigned, TellsSome, TellsOption, TellsWrite, TellsFinish, TellsRead};
+ghost use Rattle.quic_streams_c.specs.Answers.{memory_code, handle_code, closed_code, TellsDone, TellsSigned, TellsSome, TellsOption, stopped_first, TellsWrite, TellsFinish, TellsRead};
 ghost use Rattle.quic_streams_c.specs.Calls.{Calls};
+ghost use Rattle.quic_streams_c.specs.Sessions.{stop_of, Unchanged};
 ghost use Rattle.quic_streams_c.specs.Streams.{OpensRaw, AcceptsRaw, WritesRaw, FinishesRaw, ResetsRaw, StopsRaw, SetsPriorityRaw, TellsPriorityRaw, TellsStopRaw, TellsResetRaw, ReadsRaw};
 
 use crate::codes::{
@@ -134,7 +135,26 @@ fn write(
     let Some(id) = stream_of(id) else {
         return ARGUMENT;
     };
-    tell_write(&session.write(id, bytes), written, app_code)
+    let answer = session.write(id, bytes);
+    tell_write(&stopped_first(session, id, answer), written, app_code)
+}
+
+// The result of a write: Stopped instead of Blocked if the peer sent STOP_SENDING for the stream.
+fn stopped_first(
+    session: &mut Session,
+    id: StreamId,
+    answer: Result<usize, WriteError>,
+) -> Result<usize, WriteError>
+    ensures answer { result ≡ stopped_first answer (stop_of session.old id) }
+    ensures same { Unchanged session.old session.new }
+{
+    if !matches!(answer, Err(WriteError::Blocked)) {
+        return answer;
+    }
+    match session.stopped(id) {
+        Ok(Some(code)) => Err(WriteError::Stopped(code)),
+        _ => answer,
+    }
 }
 
 // How many bytes were written, or why none.

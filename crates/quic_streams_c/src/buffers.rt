@@ -2,7 +2,7 @@
 
 ghost use Rattle.std.specs.Prelude.{◌≡◌, ◌↔◌, IsSome, MatchOption, IfOk};
 ghost use Rattle.std.specs.declared.option.Option.TheVariants.{Some, None};
-ghost use Rattle.quic_streams_c.specs.Buffers.{IsShown, IsBufferReserved, ReservesRaw, EmitsHeld, EmitsBufferRaw, ReceivesHeld, ReceivesBufferRaw};
+ghost use Rattle.quic_streams_c.specs.Buffers.{IsShown, IsBufferReserved, ReservesRaw, Reserves, OpensBuffer, FreesRaw, EmitsHeld, EmitsBufferRaw, ReceivesHeld, ReceivesBufferRaw};
 ghost use Rattle.quic_streams_c.specs.Answers.{TellsDone, memory_code};
 ghost use Rattle.quic_streams_c.specs.Calls.{Calls};
 
@@ -57,7 +57,8 @@ impl RawBuffer {
 
 // One that is closed.
 fn no_buffer(alloc: Global) -> RawBuffer
-    ensures { result.slot.value ≡ None }
+    ensures none { result.slot.value ≡ None }
+    ensures shows { IsShown None result.bytes result.len }
 {
     RawBuffer {
         live: 0,
@@ -87,6 +88,7 @@ fn showing(buffer: Box<Buffer>) -> RawBuffer
 fn take_buffer(alloc: Global, raw: &mut RawBuffer) -> Option<Box<Buffer>>
     ensures taken { MatchOption result (raw.old.slot.value ≡ None) (λ b. raw.old.slot.value ≡ Some b.value) }
     ensures closed { raw.new.slot.value ≡ None }
+    ensures shows { IsShown None raw.new.bytes raw.new.len }
 {
     replace(raw, no_buffer(alloc)).into_buffer()
 }
@@ -99,17 +101,26 @@ pub extern "C" fn qs_buffer_reserve(alloc: Global, buffer: &mut RawBuffer, size:
     match take_buffer(alloc, buffer) {
         None => open_buffer(alloc, buffer, size),
         Some(mut held) => {
-            let code = tell_reserved(&held.reserve(size));
+            let code = reserve_held(&mut held, size);
             *buffer = showing(held);
             code
         }
     }
 }
 
-// One that is closed is opened.
+// Makes an open buffer at least so long. Takes no memory if it is.
+fn reserve_held(held: &mut Buffer, size: usize) -> i32
+    ensures { Reserves (Some held.old) size result (Some held.new) }
+{
+    if size <= held.bytes.len() {
+        return OK;
+    }
+    tell_reserved(&held.reserve(size))
+}
+
+// Opens a buffer. Out of memory, nothing changes.
 fn open_buffer(alloc: Global, buffer: &mut RawBuffer, size: usize) -> i32
-    requires { buffer.old.slot.value ≡ None }
-    ensures { ReservesRaw None size result (record { value = buffer.new.slot.value; bytes = buffer.new.bytes; len = buffer.new.len }) }
+    ensures { OpensBuffer (buffer.new ≡ buffer.old) size result (record { value = buffer.new.slot.value; bytes = buffer.new.bytes; len = buffer.new.len }) }
 {
     match new_buffer(alloc, size) {
         Ok(held) => {
@@ -145,7 +156,7 @@ fn tell_reserved(answer: &Result<(), OutOfMemory>) -> i32
 /// Frees a buffer. One that is closed stays as it is.
 #[unsafe(no_mangle)]
 pub extern "C" fn qs_buffer_free(alloc: Global, buffer: &mut RawBuffer)
-    ensures { buffer.new.slot.value ≡ None }
+    ensures { FreesRaw (record { value = buffer.new.slot.value; bytes = buffer.new.bytes; len = buffer.new.len }) }
 {
     drop(take_buffer(alloc, buffer));
 }
@@ -161,7 +172,7 @@ pub extern "C" fn qs_emit_buffer(
     buffer: &mut RawBuffer,
     payload: &mut RawPayload,
 ) -> i32
-    ensures { Calls handle.old.slot.value result handle.new.slot.value ((buffer.new.slot.value ≡ buffer.old.slot.value) × (payload.new ≡ payload.old)) (λ s t. EmitsBufferRaw s parts fair cap buffer.old.slot.value result t (record { value = buffer.new.slot.value; bytes = buffer.new.bytes; len = buffer.new.len }) payload.old payload.new) }
+    ensures { Calls handle.old.slot.value result handle.new.slot.value ((buffer.new ≡ buffer.old) × (payload.new ≡ payload.old)) (λ s t. EmitsBufferRaw s parts fair cap buffer.old.slot.value result t (record { value = buffer.new.slot.value; bytes = buffer.new.bytes; len = buffer.new.len }) payload.old payload.new) }
 {
     match take_out(alloc, handle) {
         None => CLOSED,
@@ -213,7 +224,7 @@ fn emit_held(
     tell_payload(&session.emit_buffer(held, cap, asked, fair), payload)
 }
 
-/// Takes the payload that is at the front of a buffer.
+/// Processes the payload that is at the front of a buffer, as [`crate::peer::qs_receive`].
 #[unsafe(no_mangle)]
 pub extern "C" fn qs_receive_buffer(
     alloc: Global,
@@ -223,7 +234,7 @@ pub extern "C" fn qs_receive_buffer(
     next: &mut usize,
     error: &mut RawError,
 ) -> i32
-    ensures { Calls handle.old.slot.value result handle.new.slot.value ((buffer.new.slot.value ≡ buffer.old.slot.value) × (next.new ≡ next.old) × (error.new ≡ error.old)) (λ s t. ReceivesBufferRaw s buffer.old.slot.value len next.old result t (record { value = buffer.new.slot.value; bytes = buffer.new.bytes; len = buffer.new.len }) next.new error.old error.new) }
+    ensures { Calls handle.old.slot.value result handle.new.slot.value ((buffer.new ≡ buffer.old) × (next.new ≡ next.old) × (error.new ≡ error.old)) (λ s t. ReceivesBufferRaw s buffer.old.slot.value len next.old result t (record { value = buffer.new.slot.value; bytes = buffer.new.bytes; len = buffer.new.len }) next.new error.old error.new) }
 {
     match take_out(alloc, handle) {
         None => CLOSED,
@@ -266,10 +277,10 @@ fn receive_held(
 ) -> i32
     ensures { ReceivesHeld session.old held.old len next.old result session.new held.new next.new error.old error.new }
 {
-    if held.bytes.len() < len {
+    if held.bytes.len() < len || len < *next {
         return ARGUMENT;
     }
-    let received = session.receive_buffer(held, len, *next);
-    *next = received.next;
-    tell_received(&received.answer, error)
+    let progress = session.process_buffer(held, len, *next);
+    *next = progress.next;
+    tell_received(&progress.answer, error)
 }

@@ -17,6 +17,8 @@ pub const OK: i32 = 0;
 pub const DONE: i32 = 1;
 /// All bytes up to the end of the stream were given.
 pub const END: i32 = 2;
+/// The next frame of the payload is one that the host processes.
+pub const OTHER_FRAME: i32 = 3;
 /// The handle is closed.
 pub const CLOSED: i32 = -1;
 /// There was no memory.

@@ -17,6 +17,7 @@ use crate::handle::{Handle, closed, holding, take_out};
 use quic_datagrams::DatagramLimits;
 use quic_session::Session;
 use quic_session::datagrams::DatagramEvent;
+use quic_session::params::ParamsError;
 use quic_session::session::Config;
 use quic_streams::PeerLimits;
 use quic_values::{Dir, OutOfMemory, Side, VarInt};
@@ -244,7 +245,8 @@ fn set_limits(session: &mut Session, limits: &RawLimits) -> i32
             session.set_max_datagram(length_of(limits.max_datagram));
             OK
         }
-        Err(_) => NO_MEMORY,
+        Err(ParamsError::Transport(_)) => ARGUMENT,
+        Err(ParamsError::OutOfMemory) => NO_MEMORY,
     }
 }
 

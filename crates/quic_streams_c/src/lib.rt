@@ -13,3 +13,4 @@ mod handle;
 mod payloads;
 mod peer;
 mod slot;
+mod version;

@@ -5,11 +5,12 @@ ghost use Rattle.quic_streams_c.specs.Calls.{Calls};
 ghost use Rattle.quic_streams_c.specs.Frames.{IsTold, TellsTaken, TellsReceived, HandsFrame, HandsStream, HandsReset, HandsStop, HandsMaxData, HandsMaxStreamData, HandsMaxStreams, HandsDatagram, ReceivesRaw};
 
 use crate::codes::{
-    ARGUMENT, CLOSED, MALFORMED, NO_MEMORY, OK, PROTOCOL, dir_of, small, stream_of,
+    ARGUMENT, CLOSED, MALFORMED, NO_MEMORY, OK, OTHER_FRAME, PROTOCOL, dir_of, small, stream_of,
 };
 use crate::handle::{Handle, holding, take_out};
 use quic_receiving::ShouldTransmit;
 use quic_session::Session;
+use quic_session::processing::Halt;
 use quic_session::receiving::PayloadError;
 use quic_wire::frame::{Datagram, ResetStream, StopSending, Stream};
 use quic_wire::{Frame, ReceiveError, TransportError};
@@ -44,7 +45,7 @@ fn copy_front(text: &[u8], room: &mut [u8]) -> usize
     length
 }
 
-/// Takes a whole payload.
+/// Processes a payload from an offset on, up to a frame that is not the library's.
 #[unsafe(no_mangle)]
 pub extern "C" fn qs_receive(
     alloc: Global,
@@ -69,17 +70,21 @@ pub extern "C" fn qs_receive(
 fn receive(session: &mut Session, payload: &[u8], next: &mut usize, error: &mut RawError) -> i32
     ensures { ReceivesRaw session.old payload.now next.old result session.new next.new error.old error.new }
 {
-    let received = session.receive(payload, *next);
-    *next = received.next;
-    tell_received(&received.answer, error)
+    if payload.len() < *next {
+        return ARGUMENT;
+    }
+    let progress = session.process(payload, *next);
+    *next = progress.next;
+    tell_received(&progress.answer, error)
 }
 
 // What came of a payload.
-pub(crate) fn tell_received(answer: &Result<(), PayloadError>, error: &mut RawError) -> i32
+pub(crate) fn tell_received(answer: &Result<Halt, PayloadError>, error: &mut RawError) -> i32
     ensures { TellsReceived answer.now result error.old error.new }
 {
     match answer {
-        Ok(()) => OK,
+        Ok(Halt::End) => OK,
+        Ok(Halt::OtherFrame) => OTHER_FRAME,
         Err(PayloadError::Malformed) => {
             tell(
                 &TransportError::frame_encoding_error("malformed frame"),

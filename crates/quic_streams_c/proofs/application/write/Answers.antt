@@ -6,4 +6,9 @@ pub returns-in_default : goal.returns-in_default
 returns-in_default c = number-refused c.stream_of.result _ _ _ c.stream_of.ensures c.in_default.not-Some ((refl, refl), refl, refl)
 
 pub returns : goal.returns
-returns c = number-given c.in-Some.id _ _ _ c.in-Some.ensures (c.write.result, (c.write.ensures.writes, c.write.ensures.unknown, c.write.ensures.from, c.write.ensures.beside), simp (to_z-of_z {w = w32} {z = c.tell_write.result} (record { sfits = c.tell_write.type_inv })) c.tell_write.ensures)
+returns c =
+    let w = c.write-answer.ensures in
+    let same = c.stopped_first.ensures.same in
+    let tells = rw c.stopped_first.ensures.answer at c.tell_write.ensures in
+    rw (same.0, same.1)
+    (number-given c.in-Some.id _ _ _ c.in-Some.ensures (c.write-answer.result, (w.writes, w.unknown, w.from, w.beside), simp (to_z-of_z {w = w32} {z = c.tell_write.result} (record { sfits = c.tell_write.type_inv })) tells))

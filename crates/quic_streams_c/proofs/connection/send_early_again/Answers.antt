@@ -6,6 +6,7 @@ returns c = let r = c.retransmit_all_for_0rtt in record {
   answer = r.result;
   sends = r.ensures.sends;
   unanswered = r.ensures.unanswered;
+  refused = r.ensures.err;
   pending = r.ensures.pending;
   beside = r.ensures.beside;
   tells = (simp (to_z-of_z {w = w32} {z = c.tell_memory.result} (record { sfits = c.tell_memory.type_inv })) c.tell_memory.ensures);

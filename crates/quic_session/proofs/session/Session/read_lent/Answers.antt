@@ -1,17 +1,15 @@
-use Rattle.std.proofs.Common.{◌≡◌, ◌≤◌, ◌+◌, ◌∙◌, sym, ap, List, ◌∷◌, ℕ, true, false, Ok, Err, inl, inr, Result, length, rules, subst, arith, Vec, Global}
-use Rattle.std.specs.Prelude.{OnOk, is_err, vec_len, vec_capacity}
+use Rattle.std.proofs.Common.{◌≡◌, ◌∙◌, sym, ap, List, ◌∷◌, ℕ, true, false, Ok, Err, inl, inr, Result, length, rules, subst, arith}
+use Rattle.std.specs.Prelude.{OnOk, is_err}
 use Rattle.std.proofs.lemmas.Bool.{false≢true}
 use Rattle.std.proofs.lemmas.List.{length-map}
 use Rattle.quic_assembler.specs.declared.chunk.Chunk.{Chunk}
-use Rattle.quic_receiving.specs.declared.errors.ReadableError.{ReadableError}
-use Rattle.quic_session.specs.declared.application.ReadInto.{ReadInto}
+use Rattle.quic_endpoint.specs.Shown.{endpoint_view}
 use Rattle.quic_history.specs.World.{Made}
 use Rattle.quic_history.specs.History.{Event, Began, From, with_reads}
 use Rattle.quic_endpoint.specs.Ends.{EndState, ReadsAt, RefusesRead}
 use Rattle.quic_session.specs.Sessions.{end_of}
 use Rattle.quic_session.specs.Reading.{AreConsecutive}
-use Rattle.quic_session.specs.declared.lent_bytes.LentBytes.{LentBytes}
-use Rattle.quic_session.specs.Lending.{lent_bytes, lends_for, whole_chunk, ReadsLent}
+use Rattle.quic_session.specs.Lending.{lent_bytes, lends_for, whole_chunk}
 use Rattle.quic_session.proofs.Copied.{count-most, given-order}
 use Rattle.quic_session.proofs.session.Session.read_lent.Goals as goal
 
@@ -24,23 +22,21 @@ where-ok (Ok _) no-error p = p
 where-ok (Err _) no-error p = absurd (false≢true (sym no-error))
 
 pub lend_all-requires-clause-none : goal.lend_all-requires-clause-none
-lend_all-requires-clause-none c = ap (λ v. v.items) c.read_given.ensures.lent ∙ c.reserve.ensures.items ∙ c.take_back.ensures.none
+lend_all-requires-clause-none c = c.reserve.ensures.items ∙ c.take_back.ensures.none
 
 pub lend_all-requires-clause-room : goal.lend_all-requires-clause-room
 lend_all-requires-clause-room c =
     let some = c.in_ok-some.some in
     let few = count-most c.lends_for-times.result (length some.chunks.items) some.last c.in_ok-some.ensures.reads.reads.count in
-    let none = ap length (ap (λ v. v.items) c.read_given.ensures.lent ∙ c.reserve.ensures.items ∙ c.take_back.ensures.none) in
-    let Roomy : Vec LentBytes Global → Type 0 = λ v. vec_len v + c.lends_for-times.result ≤ vec_capacity v in
-    let room : Roomy c.read_given.new.self.lent = subst Roomy (sym c.read_given.ensures.lent) (where-ok c.reserve.result (sym c.is_err.ensures.value ∙ c.if-is_err.false) c.reserve.ensures.ok) in
-    omega (arith, few, none, c.read_given.new.self.lent.ok.0, room, some.chunks.ok.0)
+    let none = ap length (c.reserve.ensures.items ∙ c.take_back.ensures.none) in
+    let room = where-ok c.reserve.result (sym c.is_err.ensures.value ∙ c.if-is_err.false) c.reserve.ensures.ok in
+    omega (arith, few, none, c.reserve.new.self.ok.0, room, some.chunks.ok.0)
 
 pub returns-clause-reads : goal.returns-clause-reads
-unfolding end_of
 returns-clause-reads c =
     let some = c.in_ok-some.some in
     let before : EndState = end_of c.args.self.now in
-    let after : EndState = end_of c.read_given.new.self in
+    let after : EndState = endpoint_view c.read_reusing.new.self in
     let Reads : ℕ → EndState → Type 0 = λ times. λ e. ReadsAt e c.args.id whole_chunk times true some.chunks.items some.last some.transmit.0 after in
     let Goes : EndState → Type 0 = λ e. (m : Made) (h : List Event) → From m h e.streams → From m (with_reads c.args.id whole_chunk true some.chunks.items some.last h) after.streams in
     let At : ℕ → Type 0 = λ at. AreConsecutive at some.chunks.items in
@@ -63,15 +59,13 @@ returns-clause-reads c =
     }
 
 pub returns-in_err-some-clause-reads : goal.returns-in_err-some-clause-reads
-unfolding end_of
 returns-in_err-some-clause-reads c =
     let error = c.in_err-some.field-0.0 in
     let is : c.from_residual.result ≡ Err error = search rules in
-    let P : Result ReadInto ReadableError → Type 0 = λ r. ReadsLent c.args.self.now c.args.id c.args.most r c.read_given.new.self in
-    let after : EndState = end_of c.read_given.new.self in
+    let after : EndState = endpoint_view c.read_reusing.new.self in
     let Refuses : EndState → Type 0 = λ e. RefusesRead e c.args.id true error after in
     let Goes : EndState → Type 0 = λ e. (m : Made) (h : List Event) → From m h e.streams → From m (Began c.args.id true (Err error) ∷ h) after.streams in
-    subst P (sym is) (inr (inl (record {
+    rw is (inr (inl (record {
       given = sym c.was_given.ensures ∙ c.if-not-was_given.false;
       refuses = subst Refuses c.take_back.ensures.end c.in_err-some.ensures.refused;
       from = subst Goes c.take_back.ensures.end c.in_err-some.ensures.from_refused;

@@ -1,7 +1,6 @@
-use Rattle.std.proofs.Common.{◌≤◌, ◌++◌, ◌∙◌, sym, ap, List, ℕ, length, drop, subst}
+use Rattle.std.proofs.Common.{◌≡◌, ◌≤◌, ◌++◌, ◌∙◌, sym, ap, inr, refl, rules, List, ℕ, Err, length, drop, subst}
 use Rattle.quic_assembler.specs.declared.chunk.Chunk.{Chunk}
 use Rattle.quic_history.specs.Reading.{bytes_in}
-use Rattle.quic_session.specs.Sessions.{end_of}
 use Rattle.quic_session.specs.Reading.{chunk_bytes, AreConsecutive}
 use Rattle.quic_session.proofs.Copied.{given-fit, given-order}
 use Rattle.quic_session.proofs.session.Session.read_many.Goals as goal
@@ -14,7 +13,6 @@ put_chunks-count-requires c =
     subst P (sym c.deref.ensures.value) (given-fit r.reads.opened r.reads.read c.args.id size _ c.in_ok-some.some.chunks.items c.in_ok-some.some.last r.reads.gives r.reads.count)
 
 pub returns-clause-reads : goal.returns-clause-reads
-unfolding end_of
 returns-clause-reads c =
     let r = rw c.chunks_for-times.ensures at c.in_ok-some.ensures.reads in
     let P : ℕ → Type 0 = λ at. AreConsecutive at c.in_ok-some.some.chunks.items in
@@ -28,3 +26,15 @@ returns-clause-reads c =
       copied = c.put_chunks-count.ensures.copied ∙ ap (λ l. chunk_bytes l ++ drop c.put_chunks-count.result c.args.out.now) c.deref.ensures.value;
       from = rw c.chunks_for-times.ensures at c.in_ok-some.ensures.from;
     }
+
+pub returns-in_err-some-clause-reads : goal.returns-in_err-some-clause-reads
+returns-in_err-some-clause-reads c =
+    let is : c.from_residual.result ≡ Err c.in_err-some.field-0.0 = search rules in
+    rw is (
+      refl,
+      inr (record {
+        given = sym c.was_given.ensures ∙ c.if-not-was_given.false;
+        refuses = c.in_err-some.ensures.refused;
+        from = c.in_err-some.ensures.from_refused;
+      }),
+    )

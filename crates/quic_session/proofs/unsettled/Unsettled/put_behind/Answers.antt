@@ -1,6 +1,6 @@
 use Rattle.std.proofs.Common.{refl, arith, Some, ◌∙◌, ap}
 use Rattle.quic_session.specs.Tokens.{unsettled, with_payload, at_token}
-use Rattle.quic_session.proofs.Places.{held-most, put-behind, none-next}
+use Rattle.quic_session.proofs.Places.{held-most, put-behind, none-behind}
 use Rattle.quic_session.proofs.unsettled.Unsettled.put_behind.Goals as goal
 
 pub overflow_add-self : goal.overflow_add-self
@@ -12,7 +12,8 @@ returns c =
     let u = c.args.self.now in
     record {
       is_next = refl;
-      new = λ below. none-next u.first u.next u.places.items c.requires.next;
+      new = λ below. none-behind u.first u.next u.places.items c.requires.next u.next (omega arith);
+      below = λ below. none-behind u.first u.next u.places.items c.requires.next;
       kept = λ i. λ q. (ap (λ l. at_token u.first l q) c.push_back_reserved.ensures.items ∙ put-behind u.first u.next u.places.items (Some c.args.sent) c.requires.next q) i;
       rises = c.saturating_add-self.ensures;
     }
