@@ -22,8 +22,14 @@ impl From<OutOfMemory> for WriteError {
     fn from(_error: OutOfMemory) -> WriteError { WriteError::OutOfMemory }
 }
 pub enum Mixed { Late, OutOfMemory }
+pub const NO_MEMORY: i32 = -2;
+pub enum Stop { NoPair, Failed }
+impl From<io::Error> for Stop {
+    fn from(_error: io::Error) -> Stop { Stop::Failed }
+}
 impl Lists {
     fn make_room(&mut self, n: usize) -> Result<(), OutOfMemory> { Ok(self.items.reserve(n)?) }
+    fn grow(&mut self, n: u64) -> Result<Option<u64>, OutOfMemory> { self.items.reserve(1)?; Ok(Some(n)) }
     fn open(&mut self, n: u64) -> Result<u64, Mixed> { if n == 0 { return Err(Mixed::Late); } Ok(n) }
     fn check(&self, n: u64) -> Result<(), ()> { if n > 4294967296 { Err(()) } else { Ok(()) } }
     fn put_last(&mut self, item: Item) -> Result<(), Item> {
@@ -46,6 +52,15 @@ RIGHT = {
     "of a call that gives back": "if let Err(item) = self.put_last(item()) { self.keep(item); return Err(WriteError::OutOfMemory); } Ok(())",
     "of a variable": "let made = self.make_room(1); self.tidy(); match made { Ok(()) => Ok(()), Err(_) => Err(WriteError::OutOfMemory) }",
     "behind let else": "let Ok(()) = self.make_room(1) else { return Err(WriteError::OutOfMemory); }; Ok(())",
+    "behind let else with a name": "let Ok(made) = self.grow(n) else { return Err(WriteError::OutOfMemory); }; self.keep(made)",
+    "behind let else with names in brackets": "let Ok((mut first, _)) = self.make_room(1).map(|()| (n, fin)) else { return Err(WriteError::OutOfMemory); }; first += 1; Ok(())",
+    "for what is stored": "self.items.reserve(self.others.len() + 1)?; Ok(())",
+    "for twice what is stored": "let twice = self.others.len() * 2; self.items.reserve(twice)?; Ok(())",
+    "for a few": "const MOST: usize = 4 * 1_024; self.items.reserve(MOST)?; Ok(())",
+    "a number that is no code": "if n as i64 - 2 > 7 { self.tidy(); } Ok(())",
+    "a kind of error that is compared": "if error.kind() != ErrorKind::Interrupted { self.tidy(); } Ok(())",
+    "a code of a failed growth": "match self.make_room(1) { Ok(()) => self.tell(0), Err(_) => self.tell(NO_MEMORY) }",
+    "a stop of a failed growth": "let Ok(pair) = self.grow(n) else { return Err(Stop::NoPair); }; self.keep(pair)",
     "a comparison": "if self.last == WriteError::OutOfMemory { self.tidy(); } Ok(())",
     "a pattern": "if matches!(self.last, Err(WriteError::OutOfMemory)) { self.tidy(); } Ok(())",
     "a box": "match Box::new(self.alloc, n) { Ok(_) => Ok(()), Err(_) => Err(WriteError::OutOfMemory) }",
@@ -89,6 +104,32 @@ WRONG = {
     "behind let else of another call": "let Some(_) = self.map.get(&n) else { return Err(WriteError::OutOfMemory); }; Ok(())",
     "in a loop": "for k in 0..n { if k == 1000000 { return Err(WriteError::OutOfMemory); } } Ok(())",
     "as an alternative of a growth": "match if n > 7 { Err(OutOfMemory) } else { self.make_room(1) } { Ok(()) => Ok(()), Err(_) => Err(WriteError::OutOfMemory) }",
+    "behind let else where it was too much": "let Ok(true) = self.make_room(1).map(|()| n < 100000) else { return Err(WriteError::OutOfMemory); }; Ok(())",
+    "behind let else where it gave none": "let Ok(Some(_)) = self.grow(n) else { return Err(WriteError::OutOfMemory); }; Ok(())",
+    "behind let else of a few": "let Ok(0..=100000) = self.make_room(1).map(|()| n) else { return Err(WriteError::OutOfMemory); }; Ok(())",
+    "behind let else of a constant": "const most: u64 = 7; let Ok(most) = self.make_room(1).map(|()| n) else { return Err(WriteError::OutOfMemory); }; Ok(())",
+    "behind let else of a constant in capitals": "let Ok(LAST) = self.make_room(1).map(|()| n) else { return Err(WriteError::OutOfMemory); }; Ok(())",
+    "by an error of the library's that was made here": "if n > 7 { return Err(TryReserveError.into()); } Ok(())",
+    "by an error of the kit's that was made here": "if n > 7 { return Err(InsertFailed { key: n }.into()); } Ok(())",
+    "in the arm of a constant": "const NoMemory: u64 = 7; match n { NoMemory => Err(WriteError::OutOfMemory), _ => Ok(()) }",
+    "in the arm of a static": "static Oom: u64 = 7; match n { Oom => Err(WriteError::OutOfMemory), _ => Ok(()) }",
+    "in an arm that takes any error": "match self.check(n) { Ok(()) => Ok(()), Err(NoMemory) => Err(WriteError::OutOfMemory) }",
+    "in the arm of a name for another error": "use crate::Mixed::Late as Memory; match self.open(n) { Err(Memory) => Err(WriteError::OutOfMemory), _ => Ok(()) }",
+    "by a growth for no list": "if n > 100000 { self.items.reserve(usize::MAX)?; } Ok(())",
+    "by a growth for a constant": "const TOO_MANY: usize = 1 << 62; if n > 7 { self.items.reserve_exact(TOO_MANY)?; } Ok(())",
+    "by a growth for a number": "if n > 7 { self.items.reserve(8_589_934_592)?; } Ok(())",
+    "by a growth for a variable": "let most = u64::MAX; if n > 7 { self.items.reserve(most as usize)?; } Ok(())",
+    "by a growth for a variable that was set": "let mut most = 1; if n > 7 { most = u64::MAX; } self.items.reserve(most as usize)?; Ok(())",
+    "by a growth for a shifted number": "self.items.reserve((n << 40) as usize)?; Ok(())",
+    "by a growth for a product": "self.items.reserve(n as usize * n as usize)?; Ok(())",
+    "by a growth of its own": "if n > 7 { self.make_room(usize::MAX)?; } Ok(())",
+    "by a list without need": "if n > 7 { let _list = vec![0; 1 << 40]?; } Ok(())",
+    "by a list with room without need": "if n > 7 { let _list = Vec::<u64>::with_capacity(self.alloc, usize::MAX)?; } Ok(())",
+    "by a code": "if n > 7 { return self.tell(NO_MEMORY); } self.tell(0)",
+    "by the number of a code": "if n > 7 { return -2; } 0",
+    "by a stop without a pair": "if n > 2305843009213693952 { return Err(Stop::NoPair); } Ok(())",
+    "by a stop that failed": "for line in 0..n { if line == 1000000 { return Err(Stop::Failed); } } Ok(())",
+    "by a failed write of its own": "if n > 7 { return Err(Stop::from(io::Error::from(ErrorKind::Other))); } Ok(())",
     "for compaction": "self.make_room(1)?; if n > 1024 { return Err(InsertError::CompactionMemory); } Ok(())",
 }
 
@@ -100,6 +141,11 @@ WRONG_ITEMS = {
     "a default": "#[derive(Clone, Copy, Default)]\npub struct NoMemory;",
     "a default variant": "#[derive(Default)]\npub enum Refusal { Late, #[default] OutOfMemory }",
     "a type of another name": "pub type Nothing = OutOfMemory;",
+    "another type of such a name": "pub type InsertFailed = u64;",
+    "a constant of such a name": "impl Row { pub const Memory: u64 = 100000; }",
+    "a code of another value": "pub const NO_MEMORY: i32 = CLOSED;",
+    "an out-of-memory error of a failed read": "impl From<io::Error> for Late { fn from(_error: io::Error) -> Late { Late::OutOfMemory } }",
+    "a stop without a pair of a failed read": "impl From<io::Error> for Early { fn from(_error: io::Error) -> Early { Stop::NoPair.into() } }",
     "a static": "static NO: OutOfMemory = OutOfMemory;",
     "a function that gives back by its own choice": "impl Row { fn put_first(&mut self, item: Item) -> Result<(), Item> { if self.len > 5 { return Err(item); } Ok(()) } }",
 }
@@ -124,7 +170,7 @@ class GrowthErrors(unittest.TestCase):
                 self.assertEqual(wrong_places(with_body(body)), [])
 
     def test_bodies_that_give_up_are_found(self):
-        self.assertGreaterEqual(len(WRONG), 30)
+        self.assertGreaterEqual(len(WRONG), 60)
         first = with_body("").split("\n").index("    {") + 2
         for name, body in WRONG.items():
             with self.subTest(name):

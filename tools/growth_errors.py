@@ -1,22 +1,33 @@
 #!/usr/bin/env python3
-"""Lists where out-of-memory errors begin in the sources, and fails where one begins without a call that can run out of memory.
+"""Lists where out-of-memory errors begin in the sources, and fails if one begins without a call that can run out of memory.
 
 usage: python3 tools/growth_errors.py [--list] [ROOT]
 
-With --list it prints every place, else only those that no rule allows. Its status is 1 where there is one of those.
+With --list it prints every place, else only those that no rule allows. Its status is 1 if there is one of those.
 
-An out-of-memory error may come by `?`, or be made by name where a call that can run out of memory has failed: by a `From` of
+An out-of-memory error may be passed on by `?`, or be made by name if a call that can run out of memory has failed: by a `From` of
 such an error, by `map_err` over the call, in an arm, an `if` or an `else` of its failure. docs/out_of_memory.md has the rules.
+
+The codes and stops that stand for such an error count as well (`NO_MEMORY`, `NoPair`, `Failed`), and an `io::Error` that the code makes
+itself. A growth for a large constant, rather than for what is stored, counts as an error that was chosen.
 """
 import os
 import re
 import sys
 
-# The names of out-of-memory errors: types, and variants of other errors.
-NAMES = {"OutOfMemory", "Oom", "CompactionMemory", "NoMemory", "Memory", "AllocError", "AllocFailed"}
+from source_tokens import Token, before_parameters, behind_parameters, closure_body, find, find_group, is_word, read, split, without_contracts
 
 # Error types that mean only out of memory.
 ERROR_TYPES = {"OutOfMemory", "Oom", "AllocError", "AllocFailed", "TryReserveError", "InsertFailed"}
+
+# Constants that are the code of such an error. Such a number may not be written in digits where the constant is known.
+CODES = {"NO_MEMORY"}
+
+# Names that also say that a read or a write failed. They may be made of an `io::Error` too.
+FAILURES = {"Failed"}
+
+# The names of out-of-memory errors: types, variants of other errors, and codes.
+NAMES = ERROR_TYPES | CODES | FAILURES | {"CompactionMemory", "NoMemory", "Memory", "NoPair"}
 
 # Calls of the library that take memory, and fail only when it runs out.
 LIBRARY_CALLS = {
@@ -26,6 +37,15 @@ LIBRARY_CALLS = {
 LIBRARY_PATHS = {("Box", "new")}
 LIBRARY_MACROS = {"vec", "format"}
 
+# Why an error may be made in a `From`.
+FROM_MEMORY, FROM_IO = "from", "from a failed read or write"
+
+# Calls that take memory for as much as a number says, by words of their names.
+SIZED = re.compile("reserve|room|capacity|resize|grow|repeat")
+
+# The largest constant for which memory may be taken at once. A larger number has to come from what is stored.
+MOST_AT_ONCE = 65536
+
 # Functions that hand their argument back as the error where memory runs out. It counts as an out-of-memory error.
 GIVES_BACK = {"put_new", "put_first", "put_last", "put_tidy", "join_last", "push_within", "merge", "merge_thin"}
 
@@ -33,6 +53,8 @@ GIVES_BACK = {"put_new", "put_first", "put_last", "put_tidy", "join_last", "push
 ALLOWED = {
     # A report of a payload hands the payload back where memory ran out, and only there.
     ("crates/quic_session/src/settling.rt", "SettleError::OutOfMemory"),
+    # The type of the error of an endpoint's `set_params` has out of memory alone.
+    ("crates/quic_session/src/params.rt", "Err(_) => Err(ParamsError::OutOfMemory),"),
     # A report of a payload hands the payload back where memory ran out, and only there.
     ("crates/connection_loop/src/connection.rt", "self.streams.acked(sent).or(Err(OutOfMemory))?;"),
     ("crates/connection_loop/src/connection.rt", ".or(Err(OutOfMemory))?,"),
@@ -45,82 +67,13 @@ ALLOWED = {
     ("crates/quic_pair/src/settle.rt", "None => Err(OutOfMemory),"),
     # Both answers fail only out of memory, and this arm is for all cases except two successes, so one of them is an error.
     ("crates/quic_exchange/src/replies.rt", "_ => Err(PairError::OutOfMemory),"),
+    # A map of 2^62 entries fits into no memory. The test bounds the count for the proof.
+    ("crates/block_map/src/edits.rt", "blocks.reserve(usize::MAX)?;"),
+    # A closed stream as an `io::Error`. It says nothing of memory.
+    ("crates/quic_sending/src/send.rt", "io::Error::from(io::ErrorKind::NotConnected)"),
+    # A session of 2^64 - 2 lines: the loop has a bound for the proof.
+    ("crates/streampair/src/session.rt", "Err(Stop::Failed)"),
 }
-
-OPEN, CLOSE = "([{", ")]}"
-TOKEN = re.compile(
-    r"(?P<skip>\s+|//[^\n]*|/\*.*?\*/)"
-    r"|(?P<string>b?r?\"(?:\\.|[^\"\\])*\")"
-    r"|(?P<char>b?'(?:\\[^']+|[^'\\])')"
-    r"|(?P<life>'[A-Za-z_]\w*)"
-    r"|(?P<word>[^\W\d]\w*'*)"
-    r"|(?P<number>\d[\w.]*?(?=\.\.|[^\w.]|$))"
-    r"|(?P<sign>=>|->|::|&&|\|\||==|!=|<=|>=|\.\.=|\.\.\.|\.\.|.)",
-    re.S,
-)
-
-
-class Token:
-    __slots__ = ("text", "line", "inner")
-
-    def __init__(self, text, line, inner=None):
-        self.text, self.line, self.inner = text, line, inner
-
-    def __repr__(self):
-        return self.text if self.inner is None else self.text + repr(self.inner)
-
-
-def read(text):
-    """The tokens of a source; each bracket has the tokens within it."""
-    flat, line, at = [], 1, 0
-    while at < len(text):
-        m = TOKEN.match(text, at)
-        if m.lastgroup not in ("skip",):
-            flat.append(Token(m.group(), line))
-        line += m.group().count("\n")
-        at = m.end()
-    stack = [[]]
-    for t in flat:
-        if t.text in OPEN:
-            t.inner = []
-            stack[-1].append(t)
-            stack.append(t.inner)
-        elif t.text in CLOSE:
-            if len(stack) > 1:
-                stack.pop()
-        else:
-            stack[-1].append(t)
-    return stack[0]
-
-
-def without_contracts(tokens):
-    """The tokens without contracts and ghost items, of which no code is made."""
-    out, i = [], 0
-    while i < len(tokens):
-        t = tokens[i]
-        if t.text in ("ensures", "requires", "invariant", "decreases"):
-            j = i + 1
-            if j < len(tokens) and re.match(r"\w", tokens[j].text):
-                j += 1
-            if j < len(tokens) and tokens[j].text == "{":
-                i = j + 1
-                continue
-        if t.text == "ghost":
-            while i < len(tokens) and tokens[i].text not in (";", ","):
-                i += 1
-            i += 1
-            continue
-        if t.text == "#":
-            i += 1
-            if i < len(tokens) and tokens[i].text == "!":
-                i += 1
-            i += 1
-            continue
-        if t.inner is not None:
-            t.inner = without_contracts(t.inner)
-        out.append(t)
-        i += 1
-    return out
 
 
 def names(tokens):
@@ -132,44 +85,21 @@ def names(tokens):
             yield t
 
 
-def split(tokens, sign):
-    parts, last = [], 0
-    for i, t in enumerate(tokens):
-        if t.inner is None and t.text == sign:
-            parts.append(tokens[last:i])
-            last = i + 1
-    parts.append(tokens[last:])
-    return parts
-
-
-def is_word(t):
-    return t.inner is None and re.match(r"[^\W\d]\w*$", t.text) is not None
-
-
-def find(tokens, sign, start=0):
-    for i in range(start, len(tokens)):
-        if tokens[i].inner is None and tokens[i].text == sign:
-            return i
-    return len(tokens)
-
-
-def find_group(tokens, start):
-    for i in range(start, len(tokens)):
-        if tokens[i].text == "{":
-            return i
-    return len(tokens)
-
-
 class Source:
     """Which errors the functions of a crate, and of the crates below it, answer."""
 
     def __init__(self):
         self.errors = {}
+        self.constants = {}
+        self.brought = set()
         self.variables = set()
+        self.large = set()
 
     def join(self, other):
         for name, kinds in other.errors.items():
             self.errors.setdefault(name, set()).update(kinds)
+        for name, values in other.constants.items():
+            self.constants.setdefault(name, []).extend(values)
 
     def add(self, tokens):
         """Adds the functions of a file, each with the kind of error that it answers."""
@@ -181,6 +111,30 @@ class Source:
                 while body < len(tokens) and tokens[body].text not in ("{", ";"):
                     body += 1
                 self.errors.setdefault(tokens[i + 1].text, set()).add(error_of(tokens[i + 2:body]))
+            if t.text in ("const", "static") and i + 2 < len(tokens) and tokens[i + 2].text == ":":
+                value = tokens[find(tokens, "=", i) + 1:find(tokens, ";", i)]
+                self.constants.setdefault(tokens[i + 1].text, []).append(value)
+
+    def codes(self):
+        """The codes of such errors, as numbers without their sign."""
+        values = [value for name in CODES for value in self.constants.get(name, [])]
+        return {value[1].text for value in values if len(value) == 2 and value[0].text == "-"}
+
+    def is_large(self, tokens, seen=frozenset()):
+        """Whether an expression may be a number above `MOST_AT_ONCE` that is no size of anything stored."""
+        for i, t in enumerate(tokens):
+            if t.inner is not None:
+                if self.is_large(t.inner, seen):
+                    return True
+            elif t.text in ("MAX", "pow") or t.text in self.large or shifts(tokens, i) or multiplies(tokens, i):
+                return True
+            elif t.text[0].isdigit() and number_of(t.text) > MOST_AT_ONCE:
+                return True
+            elif is_constant(t.text) and t.text not in seen:
+                values = self.constants.get(t.text)
+                if values is None or any(self.is_large(value, seen | {t.text}) for value in values):
+                    return True
+        return False
 
     def is_growth(self, name):
         """Whether a variable holds the answer of a call that fails only out of memory."""
@@ -194,6 +148,34 @@ class Source:
         if path is not None:
             return (path, callee) in LIBRARY_PATHS or callee in LIBRARY_CALLS
         return is_method and callee in LIBRARY_CALLS
+
+
+def is_constant(word):
+    return len(word) > 1 and word.isupper() and (word[0].isalpha() or word[0] == "_")
+
+
+def number_of(text):
+    """The value of a number as the source has it: `4_096`, `0x10` or `64usize`."""
+    plain = re.sub(r"(?:[iu](?:8|16|32|64|128|size)|f32|f64)$", "", text).replace("_", "")
+    try:
+        return int(plain, 0)
+    except ValueError:
+        return MOST_AT_ONCE + 1
+
+
+def shifts(tokens, i):
+    """Whether `<<` stands there, which is read as two signs."""
+    return tokens[i].text == "<" and i + 1 < len(tokens) and tokens[i + 1].text == "<"
+
+
+def multiplies(tokens, i):
+    """Whether a product stands there of which neither factor is a number up to 64."""
+    if tokens[i].text != "*" or i == 0 or i + 1 == len(tokens):
+        return False
+    sides = (tokens[i - 1], tokens[i + 1])
+    if sides[0].inner is None and not re.match(r"[\w?]", sides[0].text) or sides[0].text in ("return", "in", "as"):
+        return False
+    return not any(it.inner is None and it.text[0].isdigit() and number_of(it.text) <= 64 for it in sides)
 
 
 def error_of(signature):
@@ -249,6 +231,9 @@ def is_chain(tokens):
     return True
 
 
+# What an item begins with.
+ITEMS = ("fn", "struct", "enum", "impl", "use", "const", "static", "type")
+
 # Methods that may follow a call, and are passed over.
 PASSED_OVER = {"map", "map_err", "or", "or_else", "as_mut", "as_ref", "by_ref"}
 
@@ -269,14 +254,7 @@ def ends_in_growth(tokens, source):
         if end < 2 or tokens[end - 1].text != "(":
             return False
         at = end - 2
-        if tokens[at].text == ">":
-            depth = 0
-            while at >= 0:
-                depth += (tokens[at].text == ">") - (tokens[at].text == "<")
-                if depth == 0:
-                    break
-                at -= 1
-            at -= 2
+        at = before_parameters(tokens, at)
         if at < 0 or not is_word(tokens[at]):
             return False
         callee = tokens[at].text
@@ -304,22 +282,33 @@ def is_failure(pattern):
     return len(pattern) == 2 and pattern[0].text == "Err" and pattern[1].text == "("
 
 
-def is_memory(pattern):
-    """Whether every alternative of a pattern is an out-of-memory error."""
+def takes_all(pattern, constants):
+    """Whether a pattern takes every value: `()`, `_`, a name that is no constant, or several of these in brackets."""
+    if len(pattern) == 1 and pattern[0].text == "(":
+        return all(takes_all(part, constants) for part in split(pattern[0].inner, ",") if part)
+    if len(pattern) == 2 and pattern[0].text in ("mut", "ref"):
+        pattern = pattern[1:]
+    if len(pattern) != 1 or pattern[0].text in ("true", "false") or pattern[0].text in constants:
+        return False
+    return re.match(r"[a-z_]\w*$", pattern[0].text) is not None
+
+
+def is_memory(pattern, brought):
+    """Whether every alternative of a pattern is an out-of-memory error. A bare name is one only where it was brought into scope."""
     while len(pattern) == 1 and pattern[0].text == "(":
         pattern = pattern[0].inner
         places = [part for part in split(pattern, ",") if part]
         if len(places) > 1:
-            return any(is_memory(part) for part in places)
+            return any(is_memory(part, brought) for part in places)
     parts = split(pattern, "|")
     if len(parts) > 1:
-        return all(is_memory(part) for part in parts)
+        return all(is_memory(part, brought) for part in parts)
     if len(pattern) == 2 and pattern[0].text in ("Err", "Some") and pattern[1].text == "(":
-        return is_memory(pattern[1].inner)
+        return is_memory(pattern[1].inner, brought)
     if not pattern or not is_path(pattern):
         return False
-    last = pattern[-1] if pattern[-1].inner is None else pattern[-2]
-    return last.text in NAMES
+    path = pattern if pattern[-1].inner is None else pattern[:-1]
+    return path[-1].text in NAMES and (len(path) > 1 or path[-1].text in brought)
 
 
 def is_path(part):
@@ -336,7 +325,7 @@ class Reader:
         self.source, self.places, self.gives_back = source, places, False
         self.own_type = False
 
-    def items(self, tokens, from_memory=False):
+    def items(self, tokens, from_memory=None):
         i = 0
         while i < len(tokens):
             t = tokens[i]
@@ -356,20 +345,10 @@ class Reader:
             self.renames(tokens[i:semi])
             return semi + 1
         if kind == "type":
-            for t in header[: find(header, "=")]:
-                if t.text in NAMES:
-                    pass
-            at = find(header, "=")
-            if at < len(header) and any(True for _ in names(header[at:])) and header[1].text not in NAMES:
-                self.note(header[1], "another name")
+            self.alias(header)
             return end + 1
         if kind in ("const", "static"):
-            if len(header) > 1 and header[1].text == "fn":
-                return i + 1
-            semi = find(tokens, ";", i)
-            equal = find(tokens, "=", i)
-            self.expression(tokens[equal + 1:semi], [])
-            return semi + 1
+            return i + 1 if len(header) > 1 and header[1].text == "fn" else self.constant(tokens, i)
         if kind == "macro_rules":
             for t in names(tokens[end].inner if end < len(tokens) else []):
                 self.note(t, "in a macro")
@@ -379,83 +358,137 @@ class Reader:
         body = tokens[end].inner
         if kind == "impl":
             outer, self.own_type = self.own_type, type_of(header) in ERROR_TYPES
-            self.items(body, is_from_memory(header))
+            self.items(body, from_of(header))
             self.own_type = outer
         elif kind in ("trait", "mod"):
             self.items(body)
         elif kind == "fn":
-            outer = self.gives_back, self.source.variables
+            outer = self.gives_back, self.source.variables, self.source.large
             self.gives_back, self.source.variables = header[1].text in GIVES_BACK, answers_given(header)
-            self.expression(body, [("from", None)] if from_memory and header[1].text == "from" else [])
-            self.gives_back, self.source.variables = outer
+            self.expression(body, [from_memory] if from_memory and header[1].text == "from" else [])
+            self.gives_back, self.source.variables, self.source.large = outer
         elif kind in ("struct", "enum"):
             pass
         return end + 1
+
+    def alias(self, header):
+        """A name for another type is that of such an error where the other one is, and only there."""
+        at = find(header, "=")
+        if at < len(header) and any(True for _ in names(header[at:])) != (header[1].text in NAMES):
+            self.note(header[1], "another name")
+
+    def constant(self, tokens, i):
+        semi = find(tokens, ";", i)
+        name, value = tokens[i + 1], tokens[find(tokens, "=", i) + 1:semi]
+        if name.text in CODES and len(value) == 2 and value[0].text == "-" and value[1].text.isdigit():
+            return semi + 1
+        self.expression(value, [])
+        if name.text in NAMES:
+            self.note(name, "a constant of such a name")
+        return semi + 1
 
     def renames(self, tokens):
         for i, t in enumerate(tokens):
             if t.inner is not None:
                 self.renames(t.inner)
-            elif t.text == "as" and i and tokens[i - 1].text in NAMES:
+            elif t.text == "as" and i and i + 1 < len(tokens) and (tokens[i - 1].text in NAMES or tokens[i + 1].text in NAMES):
                 self.note(t, "another name")
 
     def note(self, token, why):
         self.places.append((token.line, False, why))
 
     def expression(self, tokens, why):
-        i = 0
-        start = 0
+        i = start = 0
         while i < len(tokens):
-            t = tokens[i]
-            before = tokens[i - 1].text if i else None
-            if t.inner is None and t.text in (";", ","):
+            if tokens[i].inner is None and tokens[i].text in (";", ","):
                 start = i + 1
-            if t.inner is None and t.text == "match" and before != ".":
-                i = self.match(tokens, i, why)
-                continue
-            if t.inner is None and t.text in ("if", "while") and before != ".":
-                i = self.branch(tokens, i, why)
-                continue
-            if t.inner is None and t.text == "let":
-                i = self.binding(tokens, i, why)
-                start = i
-                continue
-            if t.inner is None and t.text == "for":
-                group = find_group(tokens, i)
-                self.expression(tokens[find(tokens, "in", i):group], why)
-                if group < len(tokens):
-                    self.expression(tokens[group].inner, why)
-                i = group + 1
-                continue
-            if t.inner is None and t.text in ("fn", "struct", "enum", "impl", "use", "const", "static", "type") and (before in (None, ";", "}", "{", "pub") or i == start):
-                i = self.item(tokens, i, False)
-                start = i
-                continue
-            if t.inner is None and t.text == "|" and before in (None, "(", ",", "=", "move", "return", "=>", ";"):
-                close = find(tokens, "|", i + 1)
-                i = close + 1
-                if i < len(tokens) and tokens[i].text == "->":
-                    i = find_group(tokens, i)
-                continue
-            if t.inner is None and t.text == "::" and i + 1 < len(tokens) and tokens[i + 1].text == "<":
-                depth, i = 0, i + 1
-                while i < len(tokens):
-                    depth += (tokens[i].text == "<") - (tokens[i].text == ">")
-                    i += 1
-                    if depth == 0:
-                        break
-                continue
-            if t.text == "matches" and i + 2 < len(tokens) and tokens[i + 1].text == "!" and tokens[i + 2].inner is not None:
-                self.expression(tokens[i + 2].inner[: find(tokens[i + 2].inner, ",")], why)
-                i += 3
-                continue
-            if self.gives_back and t.text == "Err" and t.inner is None:
-                self.places.append((t.line, bool(why), why[-1][0] if why else "gives back"))
-            if t.inner is not None:
-                self.group(tokens, i, start, why)
-            elif self.is_made(tokens, i):
-                self.places.append((t.line, bool(why), why[-1][0] if why else "by name"))
-            i += 1
+            behind = self.construct(tokens, i, start, why)
+            if behind is None:
+                self.token(tokens, i, start, why)
+                i += 1
+            else:
+                i, start = behind
+
+    def construct(self, tokens, i, start, why):
+        """Goes through a `match`, a branch, a loop, a `let`, an item, or what makes no value. Answers what stands behind it, and where the statement there begins."""
+        t = tokens[i]
+        before = tokens[i - 1].text if i else None
+        if t.inner is not None:
+            return None
+        if t.text in ("match", "if", "while") and before != ".":
+            return (self.match if t.text == "match" else self.branch)(tokens, i, why), start
+        if t.text == "let":
+            end = self.binding(tokens, i, why)
+            return end, end
+        if t.text == "for":
+            return self.loop(tokens, i, why), start
+        if t.text in ITEMS and (before in (None, ";", "}", "{", "pub") or i == start):
+            end = self.item(tokens, i, None)
+            return end, end
+        if t.text == "|" and before in (None, "(", ",", "=", "move", "return", "=>", ";"):
+            return closure_body(tokens, i), start
+        if t.text == "::" and i + 1 < len(tokens) and tokens[i + 1].text == "<":
+            return behind_parameters(tokens, i + 1), start
+        if t.text == "matches" and i + 2 < len(tokens) and tokens[i + 1].text == "!" and tokens[i + 2].inner is not None:
+            self.expression(tokens[i + 2].inner[: find(tokens[i + 2].inner, ",")], why)
+            return i + 3, start
+        return None
+
+    def token(self, tokens, i, start, why):
+        """Looks at a single token, or goes through what stands in its brackets."""
+        t = tokens[i]
+        if self.gives_back and t.text == "Err" and t.inner is None:
+            self.places.append((t.line, bool(why), why[-1] if why else "gives back"))
+        if t.inner is not None:
+            self.group(tokens, i, start, why)
+            if self.is_growth(tokens, i) and self.source.is_large(t.inner):
+                self.note(t, "a growth without need")
+        elif self.is_made(tokens, i):
+            self.made(t, why, "by name")
+        elif self.is_code(tokens, i):
+            self.made(t, why, "by number")
+        elif t.text == "ErrorKind" and i + 2 < len(tokens) and tokens[i + 1].text == "::" and not is_compared(tokens, i + 2):
+            self.note(t, "a failed read or write of its own")
+        elif t.text == "=" and i and is_word(tokens[i - 1]) and (i < 2 or tokens[i - 2].text in (";", "}", "{", "=>")):
+            self.assign(tokens[i - 1].text, tokens[i + 1:find(tokens, ";", i)])
+
+    def loop(self, tokens, i, why):
+        group = find_group(tokens, i)
+        self.expression(tokens[find(tokens, "in", i):group], why)
+        if group < len(tokens):
+            self.expression(tokens[group].inner, why)
+        return group + 1
+
+    def is_growth(self, tokens, i):
+        """Whether the brackets have the size of a growth: the arguments of such a call, or what `vec!` is given."""
+        if tokens[i].text == "(":
+            return SIZED.search(self.called(tokens, i)) is not None
+        return i >= 2 and tokens[i - 1].text == "!" and tokens[i - 2].text == "vec"
+
+    def made(self, token, why, how):
+        """An error is made here. Where an `io::Error` is turned into another, only a name that also stands for it may be made."""
+        allowed = [it for it in why if it != FROM_IO or token.text in FAILURES]
+        self.places.append((token.line, bool(allowed), allowed[-1] if allowed else how))
+
+    def is_code(self, tokens, i):
+        """Whether the number of such a code stands here, which is below 0."""
+        if tokens[i].text != "-" or i + 1 == len(tokens) or tokens[i + 1].text not in self.source.codes():
+            return False
+        return i == 0 or tokens[i - 1].inner is None and not re.match(r"\w", tokens[i - 1].text) or tokens[i - 1].text in ("return", "{")
+
+    def called(self, tokens, i):
+        """The name of what is called with the arguments that stand there, or nothing."""
+        at = before_parameters(tokens, i - 1)
+        if at < 0 or not is_word(tokens[at]) or at and tokens[at - 1].text == "fn":
+            return ""
+        name = tokens[at].text
+        known = name in LIBRARY_CALLS or name in self.source.errors and "memory" in self.source.errors[name] or name in ("try_reserve",)
+        return name if known else ""
+
+    def assign(self, name, value):
+        """Keeps whether a variable may hold a number that is no size."""
+        large = self.source.is_large(value)
+        self.source.large = self.source.large | {name} if large else self.source.large - {name}
 
     def is_made(self, tokens, i):
         """Whether an error is made here by its name: the name is not compared with, nor called as in `OutOfMemory::from`."""
@@ -471,14 +504,14 @@ class Reader:
         if t.text == "(" and i >= 3 and tokens[i - 1].text in ("map_err", "or", "or_else") and tokens[i - 2].text == ".":
             chain = self.chain_before(tokens, i - 2, start)
             if ends_in_growth(chain, self.source):
-                inner = why + [("map_err", None)]
+                inner = why + ["map_err"]
             elif tokens[i - 1].text == "map_err":
-                inner = why + [("map_err", None)] if self.closure_takes_memory(t.inner) else why
+                inner = why + ["map_err"] if self.closure_takes_memory(t.inner) else why
         self.expression(t.inner, inner)
 
     def closure_takes_memory(self, tokens):
         """`|OutOfMemory| ..`"""
-        return len(tokens) > 2 and tokens[0].text == "|" and tokens[1].text in NAMES and tokens[2].text == "|"
+        return len(tokens) > 2 and tokens[0].text == "|" and tokens[1].text in NAMES & self.source.brought and tokens[2].text == "|"
 
     def chain_before(self, tokens, end, start):
         at = end
@@ -512,10 +545,10 @@ class Reader:
             else:
                 end = find(arms, ",", end)
             inner = why
-            if pattern and is_memory(pattern):
-                inner = why + [("arm of such an error", None)]
+            if pattern and is_memory(pattern, self.source.brought):
+                inner = why + ["arm of such an error"]
             elif grows and is_failure(pattern):
-                inner = why + [("arm of a failed growth", None)]
+                inner = why + ["arm of a failed growth"]
             self.expression(arms[arrow + 1:end], inner)
             at = end + 1 if end < len(arms) and arms[end].text == "," else end
         return group + 1
@@ -530,14 +563,14 @@ class Reader:
                 equal = find(part, "=")
                 pattern, subject = part[1:equal], part[equal + 1:]
                 self.expression(subject, why)
-                if whole and is_memory(pattern):
-                    inner = inner + [("arm of such an error", None)]
+                if whole and is_memory(pattern, self.source.brought):
+                    inner = inner + ["arm of such an error"]
                 elif whole and is_failure(pattern) and ends_in_growth(subject, self.source):
-                    inner = inner + [("arm of a failed growth", None)]
+                    inner = inner + ["arm of a failed growth"]
             else:
                 self.expression(part, why)
                 if whole and tells_failure(part, self.source):
-                    inner = inner + [("arm of a failed growth", None)]
+                    inner = inner + ["arm of a failed growth"]
         if group < len(tokens):
             self.expression(tokens[group].inner, inner)
         return group + 1
@@ -555,11 +588,14 @@ class Reader:
             self.source.variables = self.source.variables - {t.text}
         if len(pattern) == 1 and ends_in_growth(rest, self.source):
             self.source.variables = self.source.variables | {pattern[0].text}
+        for t in pattern[:find(pattern, ":")]:
+            if is_word(t) and t.text not in ("mut", "ref"):
+                self.assign(t.text, rest)
         if otherwise < len(rest) and not any(t.text in ("if", "match") for t in rest[:otherwise]):
             subject = rest[:otherwise]
             self.expression(subject, why)
-            is_ok = len(pattern) >= 2 and pattern[0].text == "Ok" and pattern[1].text == "("
-            inner = why + [("arm of a failed growth", None)] if is_ok and ends_in_growth(subject, self.source) else why
+            is_ok = len(pattern) == 2 and pattern[0].text == "Ok" and pattern[1].text == "(" and takes_all(pattern[1:], self.source.constants)
+            inner = why + ["arm of a failed growth"] if is_ok and ends_in_growth(subject, self.source) else why
             self.expression(rest[otherwise + 1:], inner)
             return semi
         return equal + 1
@@ -597,14 +633,29 @@ def is_compared(tokens, i):
     return any(side in ("==", "!=") for side in sides)
 
 
-def is_from_memory(header):
-    """Whether it is `impl From<E> for F`, where E means only out of memory."""
+def from_of(header):
+    """Why such an error may be made in `impl From<E> for F`: E means only out of memory, or it is an `io::Error`."""
     words = [t.text for t in header]
     if "From" not in words or "for" not in words:
-        return False
+        return None
     at = words.index("From")
     inner = words[at + 2:len(words) - 1 - words[::-1].index("for")]
-    return bool(inner) and inner[0] in ERROR_TYPES
+    if inner and inner[0] in ERROR_TYPES:
+        return FROM_MEMORY
+    return FROM_IO if inner[:3] == ["io", "::", "Error"] else None
+
+
+def brought_in(tokens):
+    """The names of errors that a file brings into scope, by `use` or as a type of its own."""
+    found = set()
+    for i, t in enumerate(tokens):
+        if t.text == "use":
+            found |= {it.text for it in names(tokens[i:find(tokens, ";", i)])}
+        elif t.text in ("struct", "type") and i + 1 < len(tokens) and tokens[i + 1].text in NAMES:
+            found.add(tokens[i + 1].text)
+        elif t.text in ("mod", "fn") and find_group(tokens, i) < len(tokens):
+            found |= brought_in(tokens[find_group(tokens, i)].inner)
+    return found
 
 
 def type_of(header):
@@ -678,6 +729,7 @@ def places_of(texts, below):
         source = Source()
         for crate in below.get(crate_of(name), {crate_of(name)}):
             source.join(own.get(crate, Source()))
+        source.brought = brought_in(tree)
         places = []
         Reader(source, places).items(tree)
         places += [(line, False, "a default") for line in defaults(texts[name])]
