@@ -1,40 +1,54 @@
-/* quic_streams.h -- the streams and datagrams of one end of a QUIC connection
- * (RFC 9000 sections 2 to 4, 13.3 and 19; RFC 9221), for a host that has the
+/* SPDX-License-Identifier: MIT OR Apache-2.0 */
+/**
+ * @file quic_streams.h
+ * @brief The streams and datagrams of one endpoint of a QUIC connection.
+ *
+ * RFC 9000 sections 2 to 4, 13.3 and 19, and RFC 9221, for a host that has the
  * rest of the connection: packets, acknowledgement ranges, loss detection,
- * encryption, timers and sockets.
+ * encryption, timers and sockets. The host passes in the frames of received
+ * packets, lets the library write payloads for the packets that it sends, and
+ * reports each payload once, as acknowledged or lost.
  *
- * The host hands in the frames of packets that came, has payloads written for
- * the packets that it sends, and reports each payload once, as acknowledged or
- * as lost.
+ * @par Return values
+ * qs_conn_free and qs_buffer_free return nothing, qs_version a number. Every
+ * other call returns an int32_t: QS_OK, QS_DONE, QS_END or QS_OTHER_FRAME,
+ * which are not negative, or one of QS_ERR_*, which are negative. A call on a
+ * closed handle, except qs_conn_open, returns QS_ERR_CLOSED. A call with a
+ * number above its bound returns QS_ERR_ARGUMENT. A call lists all other values
+ * that it returns. If nothing else is said, a call that returns an error
+ * changes nothing, and an out-parameter is written only with the return values
+ * that name it.
  *
- * RETURN VALUES. Each call returns an int32_t: QS_OK, QS_DONE or QS_END, which
- * are not negative, or one of QS_ERR_*, which are negative. Each call except
- * qs_conn_free may return QS_ERR_CLOSED, and each call that takes a number with
- * a bound may return QS_ERR_ARGUMENT. Both change nothing and write through no
- * pointer. Where nothing else is said, an error changes nothing, and what a
- * pointer points to is written only with the return values that name it.
+ * @par Numbers
+ * Stream ids, offsets, limits, receive windows and application error codes are
+ * below 2^62 (RFC 9000 section 16). The stream limits of qs_config and of
+ * qs_peer_limits are at most 2^60 (section 4.6). A direction is QS_BIDI or
+ * QS_UNI. Lengths are in bytes.
  *
- * NUMBERS. Stream ids, offsets, limits, receive windows, counts of streams and
- * application error codes are below 2^62 (RFC 9000 section 16); the counts of
- * streams in qs_config are at most 2^60 (section 4.6). A greater number is
- * QS_ERR_ARGUMENT. Lengths are in bytes.
+ * @par Pointers
+ * A handle is as the library left it. A buffer of length 0 may be NULL. No
+ * other pointer may be NULL, and no out-parameter is optional. Memory that the
+ * library reads is initialised. Memory that it only writes, buffers and
+ * out-parameters alike, need not be. No two pointers of one call may point to
+ * the same or to overlapping memory: one variable does not serve for two
+ * out-parameters. The library keeps no pointer of the host after a call, and
+ * shows its own memory by qs_emit_lent, qs_stream_read_lent and qs_buffer.
  *
- * MEMORY. QS_ERR_NOMEM: out of memory. The library never ends the process. It
- * allocates with malloc and realloc and releases with free.
+ * @par Memory
+ * The library allocates with malloc and realloc and releases with free. If that
+ * fails, the call returns QS_ERR_NOMEM. The library never ends the process.
  *
- * POINTERS. A handle is as the library left it. Buffers are valid for their
- * length and overlap neither each other nor the handle. Buffers that are read
- * are initialised, and so is all that pointers to single values point to.
- * Buffers that are only written need not be. With length 0 a buffer may be
- * NULL; other pointers may not. The library keeps no pointer of the host's
- * after a call. It hands out pointers of its own in qs_emit_lent, in
- * qs_stream_read_lent and in a qs_buffer.
+ * @par Threads, signals, processes
+ * A call on a handle or on a qs_buffer must end before the next one on it
+ * begins. Handles share nothing: different threads may use different handles at
+ * the same time. A handle may move to another thread if the host orders the
+ * two, for example by a lock; no proof covers this, which relies on the library
+ * having no global and no thread-local state. No call may be made from a signal
+ * handler, since malloc may not. The library has no lock, file or thread, so a
+ * forked process has a copy of each session; only one may go on.
  *
- * THREADS. A call on a handle or a qs_buffer must have ended before the next
- * call on the same one begins. Handles share nothing: those of different
- * connections may be used by different threads at the same time, and a handle
- * may move from one thread to another where the host orders the two, for
- * example by a lock.
+ * @par Platform
+ * x86-64-v2 processors (SSE4.2, POPCNT), System V calls.
  */
 #ifndef QUIC_STREAMS_H
 #define QUIC_STREAMS_H
@@ -42,498 +56,741 @@
 #include <stddef.h>
 #include <stdint.h>
 
+/** The version of this header. Before 1.0 a new minor version may change the
+ * interface, a new patch version does not. */
+#define QS_VERSION_MAJOR 0
+#define QS_VERSION_MINOR 1
+#define QS_VERSION_PATCH 0
+/** The version as text. */
+#define QS_VERSION "0.1.0"
+/** The version as a number, 0xMMmmpp, for comparisons. */
+#define QS_VERSION_NUM                                                         \
+  ((QS_VERSION_MAJOR << 16) | (QS_VERSION_MINOR << 8) | QS_VERSION_PATCH)
+
+/** Precedes each declaration. May be defined before this header is read. */
+#ifndef QS_API
+#if defined(__GNUC__)
+#define QS_API __attribute__((visibility("default")))
+#else
+#define QS_API
+#endif
+#endif
+
 #ifdef __cplusplus
 extern "C" {
 #endif
 
-/* ---- return values ------------------------------------------------------ */
+/** The version of the library that runs, as QS_VERSION_NUM is that of this
+ * header. If major or minor version differ, use another library. */
+QS_API uint32_t qs_version(void);
 
+/* ---- return values ------------------------------------------------------ */
+/** Return values. */
 enum {
-  QS_OK = 0,              /* the call did what it says */
-  QS_DONE = 1,            /* nothing is available now */
-  QS_END = 2,             /* the stream was read to its end */
-  QS_ERR_CLOSED = -1,     /* the handle is closed */
-  QS_ERR_NOMEM = -2,      /* out of memory; the call can be made again */
-  QS_ERR_ARGUMENT = -3,   /* a number is above its bound, or names nothing */
-  QS_ERR_IN_USE = -4,     /* the handle is not closed */
-  QS_ERR_NO_STREAM = -5,  /* the stream was neither opened nor accepted, or its
-                             half for this call is closed */
-  QS_ERR_BLOCKED = -6,    /* nothing can be written, read or queued now */
-  QS_ERR_STOPPED = -7,    /* the peer sent STOP_SENDING; *app_code is set */
-  QS_ERR_RESET = -8,      /* the peer sent RESET_STREAM; *app_code is set */
-  QS_ERR_ORDER = -9,      /* ordered read after an unordered read */
-  QS_ERR_PROTOCOL = -10,  /* close the connection with error->code */
-  QS_ERR_MALFORMED = -11, /* the payload is not a sequence of frames; close
-                             the connection with error->code */
-  QS_ERR_TOKEN = -12,     /* no payload has this token, or it was settled */
-  QS_ERR_DATAGRAMS_OFF = -13, /* datagrams are off, here or at the peer */
-  QS_ERR_TOO_LARGE = -14,     /* the datagram is too long */
-  QS_ERR_TOO_SMALL = -15      /* the buffer is too small */
+  QS_OK = 0,                  /**< the call did what it says */
+  QS_DONE = 1,                /**< nothing is available now */
+  QS_END = 2,                 /**< the stream was read to its end */
+  QS_OTHER_FRAME = 3,         /**< the next frame of a payload is the host's */
+  QS_ERR_CLOSED = -1,         /**< the handle or the buffer is closed */
+  QS_ERR_NOMEM = -2,          /**< out of memory; the call may be repeated */
+  QS_ERR_ARGUMENT = -3,       /**< a number is above its bound */
+  QS_ERR_IN_USE = -4,         /**< the handle is open */
+  QS_ERR_NO_STREAM = -5,      /**< this side of the stream is not open */
+  QS_ERR_BLOCKED = -6,        /**< nothing can be written, read or queued now */
+  QS_ERR_STOPPED = -7,        /**< the peer sent STOP_SENDING */
+  QS_ERR_RESET = -8,          /**< the peer sent RESET_STREAM */
+  QS_ERR_ORDER = -9,          /**< ordered read after an unordered read */
+  QS_ERR_PROTOCOL = -10,      /**< the peer violated the protocol */
+  QS_ERR_MALFORMED = -11,     /**< the payload is not a sequence of frames */
+  QS_ERR_TOKEN = -12,         /**< no unreported payload has this token */
+  QS_ERR_DATAGRAMS_OFF = -13, /**< this endpoint or the peer takes none */
+  QS_ERR_TOO_LARGE = -14,     /**< the datagram is too long */
+  QS_ERR_TOO_SMALL = -15      /**< the buffer is too small */
 };
 
-/* A short text for a return value, for logs. Never NULL. */
-static inline const char *qs_strerror(int32_t answer) {
-  switch (answer) {
-  case QS_OK:
-    return "ok";
-  case QS_DONE:
-    return "nothing to give now";
-  case QS_END:
-    return "end of stream";
-  case QS_ERR_CLOSED:
-    return "closed handle";
-  case QS_ERR_NOMEM:
-    return "out of memory";
-  case QS_ERR_ARGUMENT:
-    return "argument out of range";
-  case QS_ERR_IN_USE:
-    return "handle in use";
-  case QS_ERR_NO_STREAM:
-    return "closed stream";
-  case QS_ERR_BLOCKED:
-    return "blocked";
-  case QS_ERR_STOPPED:
-    return "stopped by peer";
-  case QS_ERR_RESET:
-    return "reset by peer";
-  case QS_ERR_ORDER:
-    return "ordered read after unordered read";
-  case QS_ERR_PROTOCOL:
-    return "protocol violated by peer";
-  case QS_ERR_MALFORMED:
-    return "malformed payload";
-  case QS_ERR_TOKEN:
-    return "no such payload";
-  case QS_ERR_DATAGRAMS_OFF:
-    return "datagrams are off";
-  case QS_ERR_TOO_LARGE:
-    return "datagram too large";
-  case QS_ERR_TOO_SMALL:
-    return "buffer too small";
-  default:
-    return "unknown answer";
-  }
+/** A short text for a return value, for logs. Never NULL. */
+static inline const char *qs_strerror(int32_t result) {
+  /* clang-format off */
+  static const char *const texts[] = {
+      "buffer too small", "datagram too large", "datagrams are off",
+      "no such payload", "malformed payload", "protocol violated by peer",
+      "ordered read after unordered read", "reset by peer", "stopped by peer",
+      "blocked", "closed stream", "handle in use",
+      "argument out of range", "out of memory", "closed handle",
+      "ok", "nothing available now", "end of stream", "frame of another type"};
+  /* clang-format on */
+  return result < QS_ERR_TOO_SMALL || result > QS_OTHER_FRAME
+             ? "unknown return value"
+             : texts[result - QS_ERR_TOO_SMALL];
 }
 
-/* ---- one end of a connection --------------------------------------------- */
-
-/* A handle of a session, which is one end of a connection. The host allocates
- * the handle. All zero bytes are a closed handle. It may be moved (memcpy to a
- * new place, and no use of the old one), but never copied: two handles of one
- * session free its memory twice. */
+/* ---- one endpoint of a connection ---------------------------------------- */
+/** A handle of a session, which is one endpoint of a connection. The host
+ * allocates the handle. All zero bytes are a closed handle. It may be moved
+ * (memcpy to a new place, no further use of the old one) but never copied: two
+ * handles of one session free its memory twice. */
 typedef struct qs_conn {
-  uint64_t live;
-  void *at;
+  uint64_t live; /**< private: 1 if open */
+  void *at;      /**< private: the session */
 } qs_conn;
 
+/** A closed handle. */
 #define QS_CONN_INIT                                                           \
   { 0, NULL }
 
+/** The side of an endpoint. */
 enum { QS_CLIENT = 0, QS_SERVER = 1 };
+/** The direction of a stream. */
 enum { QS_BIDI = 0, QS_UNI = 1 };
+/** No number: datagrams are off. */
+#define QS_NONE UINT64_MAX
+/** The largest receive window, in bytes, with which an honest peer cannot
+ * exceed the reassembly limit while `percent` of the packets of a flight are
+ * lost and each packet carries `packet` bytes. A stream that has more than
+ * 1,024 disjoint segments buffered fails with INTERNAL_ERROR, which closes the
+ * connection; each lost packet leaves a gap until it is retransmitted. */
+#define QS_WINDOW_FOR(packet, percent)                                         \
+  (UINT64_C(1024) * (uint64_t)(packet)*100 / (uint64_t)(percent))
 
-/* The configuration of a session. Set size to sizeof(qs_config). */
+/** The configuration of a session. Set size to sizeof(qs_config).
+ *
+ * The host advertises the same numbers in its transport parameters (RFC 9000
+ * section 18.2, RFC 9221 section 3): max_remote_uni as initial_max_streams_uni,
+ * max_remote_bidi as initial_max_streams_bidi, receive_window as
+ * initial_max_data, stream_window as each initial_max_stream_data_*, and
+ * datagram_receive in max_datagram_frame_size.
+ *
+ * A datagram counts its length and 32 bytes against datagram_receive: a longer
+ * one than datagram_receive - 32 is a PROTOCOL_VIOLATION of the peer, so
+ * advertise a max_datagram_frame_size of at most datagram_receive - 32 plus
+ * the header of the frame. If received datagrams exceed datagram_receive, the
+ * oldest are dropped, without an event or a count.
+ *
+ * Keep stream_window at or below QS_WINDOW_FOR(packet, percent). */
 typedef struct qs_config {
-  uint32_t size;
-  uint32_t side;             /* QS_CLIENT or QS_SERVER */
-  uint64_t max_remote_uni;   /* how many streams the peer may open at first, */
-  uint64_t max_remote_bidi;  /* at most 2^60; memory is taken for all at once */
-  uint64_t send_window;      /* how many written bytes are kept at most until
-                                they are acknowledged */
-  uint64_t receive_window;   /* how many bytes of all streams together may be
-                                received and not read */
-  uint64_t stream_window;    /* the same for each stream */
-  uint64_t datagram_receive; /* how many bytes of datagrams may be received and
-                                not read; each counts 32 bytes more than its
-                                length; QS_NONE: the peer may send none */
-  uint64_t datagram_send;    /* how many bytes of datagrams may wait to be sent,
-                                counted in the same way */
+  uint32_t size;            /**< sizeof(qs_config), exactly */
+  uint32_t side;            /**< QS_CLIENT or QS_SERVER */
+  uint64_t max_remote_uni;  /**< streams that the peer may open at first, one
+                                 way; at most 2^60, all allocated at once */
+  uint64_t max_remote_bidi; /**< the same, both ways */
+  uint64_t send_window;     /**< written bytes that are buffered at most until
+                                 they are acknowledged; any number */
+  uint64_t receive_window;  /**< bytes of all streams that may be unread */
+  uint64_t stream_window;   /**< bytes of each stream that may be unread */
+  uint64_t
+      datagram_receive;   /**< bytes of datagrams that may be unread; QS_NONE:
+                               the peer may send none, and qs_datagram_send
+                               returns QS_ERR_DATAGRAMS_OFF too */
+  uint64_t datagram_send; /**< bytes of datagrams that may be pending, each
+                               with 32 more than its length; any number */
 } qs_config;
 
-#define QS_NONE UINT64_MAX
+/** Opens a session in a closed handle.
+ * @param conn a closed handle; left unchanged by an error
+ * @param config read; not needed after the call
+ * @retval QS_OK the handle is open
+ * @retval QS_ERR_IN_USE the handle was open already
+ * @retval QS_ERR_ARGUMENT config->size is not sizeof(qs_config), or a number is
+ *         above its bound
+ * @retval QS_ERR_NOMEM out of memory */
+QS_API int32_t qs_conn_open(qs_conn *conn, const qs_config *config);
 
-/* Opens a session in a closed handle.
- * QS_ERR_IN_USE: the handle is not closed. QS_ERR_ARGUMENT, QS_ERR_NOMEM. */
-int32_t qs_conn_open(qs_conn *conn, const qs_config *config);
+/** Frees the session with all its memory, and closes the handle. A closed
+ * handle stays closed. */
+QS_API void qs_conn_free(qs_conn *conn);
 
-/* Frees the session, with all that it holds, and closes the handle. A closed
- * handle stays as it is. */
-void qs_conn_free(qs_conn *conn);
+/** Reports that the connection is closing (RFC 9000 section 10): call it when
+ * CONNECTION_CLOSE was sent or received, also after QS_ERR_PROTOCOL and
+ * QS_ERR_MALFORMED. From then on qs_stream_open returns QS_DONE and
+ * qs_stream_write returns QS_ERR_BLOCKED, or QS_ERR_STOPPED; neither raises an
+ * event later. All other calls work as before: received data can be read,
+ * events polled and payloads reported. Emit no payload and pass in no frame any
+ * more (section 10.2); the library does not refuse them.
+ * @retval QS_OK the session is closing */
+QS_API int32_t qs_conn_close(qs_conn *conn);
 
-/* To be called once the connection is closed (RFC 9000 section 10). From then
- * on no stream is opened (QS_DONE) and nothing is written (QS_ERR_BLOCKED).
- * What was received can be read. */
-int32_t qs_conn_close(qs_conn *conn);
-
-/* The limits in the peer's transport parameters (RFC 9000 section 18.2), with
- * the names that they have there. Each is below 2^62. */
+/** The limits in the peer's transport parameters (RFC 9000 section 18.2), by
+ * their names there, each below 2^62. An absent parameter is 0. */
 typedef struct qs_peer_limits {
+  /* bytes of all streams; streams that may be opened */
   uint64_t initial_max_data;
   uint64_t initial_max_streams_bidi;
   uint64_t initial_max_streams_uni;
+  /* bytes of each stream: unidirectional, opened by the peer, opened here */
   uint64_t initial_max_stream_data_uni;
   uint64_t initial_max_stream_data_bidi_local;
   uint64_t initial_max_stream_data_bidi_remote;
-  uint64_t max_datagram; /* the length of the longest datagram that the path
-                            and the peer take; QS_NONE: the peer takes none */
+  uint64_t max_datagram; /**< length of the longest datagram that the path and
+                              the peer accept, any number; QS_NONE: none */
 } qs_peer_limits;
 
-/* Sets the peer's limits. Before, no stream can be opened and nothing can be
+/** Sets the peer's limits. Before, no stream can be opened and nothing can be
  * written. For 0-RTT, call it first with the remembered limits. Each open
- * stream of this end gets its new limit, with an event where it can be written
- * on again. QS_ERR_NOMEM: nothing changed; it is never returned where this end
- * opened no stream.
- */
-int32_t qs_set_peer_limits(qs_conn *conn, const qs_peer_limits *limits);
+ * stream of this endpoint gets its new limit, and QS_EVENT_WRITABLE is raised
+ * if it was blocked.
+ * @param limits read; not needed after the call
+ * @retval QS_OK the limits are set
+ * @retval QS_ERR_ARGUMENT a stream limit is above 2^60, or another is 2^62 or
+ *         more: close the connection with TRANSPORT_PARAMETER_ERROR
+ * @retval QS_ERR_NOMEM out of memory; never if no stream was opened here */
+QS_API int32_t qs_set_peer_limits(qs_conn *conn, const qs_peer_limits *limits);
 
-/* The server rejected the 0-RTT of a client (RFC 9001 section 4.6.2). The
- * client's streams are gone, with all that was sent and was to be sent. Tokens
- * of earlier payloads are gone too. Set the peer's limits next. */
-int32_t qs_zero_rtt_rejected(qs_conn *conn);
+/** The server rejected the 0-RTT data of a client (RFC 9001 section 4.6.2).
+ * Discards the client's streams with all sent and pending data, and all tokens
+ * of earlier payloads. Set the peer's limits next.
+ * @retval QS_OK done */
+QS_API int32_t qs_zero_rtt_rejected(qs_conn *conn);
 
-/* All data that was sent in 0-RTT has to be sent again, as after a Retry (RFC
- * 9000 section 17.2.5). This call does not cover control frames: report the
+/** Queues all data that was sent in 0-RTT again, as needed after a Retry (RFC
+ * 9000 section 17.2.5). Control frames are not covered: report the earlier
  * payloads lost, by their tokens. Meant for a time at which nothing was
- * acknowledged. QS_ERR_NOMEM. */
-int32_t qs_retransmit_all_for_0rtt(qs_conn *conn);
+ * acknowledged.
+ * @retval QS_OK done
+ * @retval QS_ERR_NOMEM out of memory */
+QS_API int32_t qs_retransmit_all_for_0rtt(qs_conn *conn);
 
 /* ---- streams ------------------------------------------------------------- */
+/** Opens the next stream of a direction.
+ * @param dir QS_BIDI or QS_UNI
+ * @param[out] id the stream, written with QS_OK only
+ * @retval QS_OK the stream is open
+ * @retval QS_DONE the peer's stream limit is reached, and QS_EVENT_AVAILABLE
+ *         follows when it rises; or the connection is closing
+ * @retval QS_ERR_NOMEM out of memory */
+QS_API int32_t qs_stream_open(qs_conn *conn, uint32_t dir, uint64_t *id);
 
-/* Opens the next stream of a direction, QS_BIDI or QS_UNI.
- * QS_OK: *id is set. QS_DONE: as many were opened as the peer permits, or the
- * connection is closed; QS_EVENT_AVAILABLE follows. QS_ERR_NOMEM. */
-int32_t qs_stream_open(qs_conn *conn, uint32_t dir, uint64_t *id);
+/** Accepts the next stream of a direction that the peer opened, in the order
+ * of their ids.
+ * @param dir QS_BIDI or QS_UNI
+ * @param[out] id the stream, written with QS_OK only
+ * @retval QS_OK the stream is accepted
+ * @retval QS_DONE no stream waits to be accepted */
+QS_API int32_t qs_stream_accept(qs_conn *conn, uint32_t dir, uint64_t *id);
 
-/* Accepts the next stream of a direction that the peer opened, in the order of
- * their ids. QS_OK: *id is set. QS_DONE: none waits to be accepted. */
-int32_t qs_stream_accept(qs_conn *conn, uint32_t dir, uint64_t *id);
+/** Writes data to a stream, and copies it: len bytes, or as many as the peer's
+ * limits and the send window allow. After a partial write call again with the
+ * rest: only QS_ERR_BLOCKED makes QS_EVENT_WRITABLE certain. A write of length
+ * 0 on a stream that is not blocked returns QS_OK with 0 bytes.
+ * @param data len bytes; may be NULL if len is 0
+ * @param[out] written bytes written, with QS_OK only
+ * @param[out] app_code the peer's error code, with QS_ERR_STOPPED only
+ * @retval QS_OK *written bytes were taken, at least one if len is not 0
+ * @retval QS_ERR_BLOCKED nothing can be written now; QS_EVENT_WRITABLE follows,
+ *         unless the stream is finished, reset or stopped before, or the
+ *         connection is closing. The session notes that the stream is blocked,
+ *         and DATA_BLOCKED or STREAM_DATA_BLOCKED may become due. Never
+ *         returned for a stream that the peer stopped.
+ * @retval QS_ERR_STOPPED the peer sent STOP_SENDING: reset the stream, so that
+ *         the peer learns its final size. Also returned while the peer's limits
+ *         or the send window allow no data, and after qs_conn_close. The stream
+ *         may be noted as blocked, as with QS_ERR_BLOCKED.
+ * @retval QS_ERR_NO_STREAM the send side is closed or never existed
+ * @retval QS_ERR_NOMEM out of memory */
+QS_API int32_t qs_stream_write(qs_conn *conn, uint64_t id, const uint8_t *data,
+                               size_t len, size_t *written, uint64_t *app_code);
 
-/* Writes the first bytes of data, and copies them: len bytes, or as many as the
- * peer's limits and the send window leave, where that is less.
- * QS_OK: *written is how many. QS_ERR_BLOCKED: none can be written now;
- * QS_EVENT_WRITABLE follows, unless the stream is finished, reset or stopped
- * first, or the connection is closed. QS_ERR_STOPPED: *app_code is set.
- * QS_ERR_NO_STREAM, QS_ERR_NOMEM. */
-int32_t qs_stream_write(qs_conn *conn, uint64_t id, const uint8_t *data,
-                        size_t len, size_t *written, uint64_t *app_code);
+/** Finishes a stream: no data follows, and FIN is sent.
+ * @param[out] app_code the peer's error code, with QS_ERR_STOPPED only
+ * @retval QS_OK FIN is queued; QS_EVENT_FINISHED follows when all is
+ *         acknowledged
+ * @retval QS_ERR_STOPPED the peer sent STOP_SENDING; reset the stream instead
+ * @retval QS_ERR_NO_STREAM the send side is closed or never existed
+ * @retval QS_ERR_NOMEM out of memory */
+QS_API int32_t qs_stream_finish(qs_conn *conn, uint64_t id, uint64_t *app_code);
 
-/* Finishes a stream: nothing more is written on it, and its end (FIN) is sent.
- * QS_ERR_STOPPED: *app_code is set. QS_ERR_NO_STREAM, QS_ERR_NOMEM. */
-int32_t qs_stream_finish(qs_conn *conn, uint64_t id, uint64_t *app_code);
+/** Resets a stream (RFC 9000 section 19.4): unacknowledged data is dropped, and
+ * RESET_STREAM is sent.
+ * @retval QS_OK the send side is reset
+ * @retval QS_ERR_NO_STREAM the send side is closed or never existed
+ * @retval QS_ERR_NOMEM out of memory */
+QS_API int32_t qs_stream_reset(qs_conn *conn, uint64_t id, uint64_t app_code);
 
-/* Resets a stream (RFC 9000 section 19.4): what was not acknowledged is
- * dropped, and RESET_STREAM is sent. QS_ERR_NO_STREAM, QS_ERR_NOMEM. */
-int32_t qs_stream_reset(qs_conn *conn, uint64_t id, uint64_t app_code);
+/** Asks the peer to stop sending (STOP_SENDING, RFC 9000 section 19.5), and
+ * drops unread data.
+ * @retval QS_OK the receive side is stopped
+ * @retval QS_ERR_NO_STREAM the receive side is closed or never existed
+ * @retval QS_ERR_NOMEM out of memory */
+QS_API int32_t qs_stream_stop(qs_conn *conn, uint64_t id, uint64_t app_code);
 
-/* Asks the peer to send no more on a stream (STOP_SENDING, RFC 9000 section
- * 19.5), and drops what was not read. QS_ERR_NO_STREAM, QS_ERR_NOMEM. */
-int32_t qs_stream_stop(qs_conn *conn, uint64_t id, uint64_t app_code);
+/** Sets the priority of a stream: streams of a higher number are sent first.
+ * A new stream has priority 0.
+ * @retval QS_OK the priority is set
+ * @retval QS_ERR_NO_STREAM the send side is closed or never existed
+ * @retval QS_ERR_NOMEM out of memory */
+QS_API int32_t qs_stream_set_priority(qs_conn *conn, uint64_t id,
+                                      int32_t priority);
 
-/* Sets the priority of a stream: streams with a higher number are sent first.
- * It is 0 at first. QS_ERR_NO_STREAM, QS_ERR_NOMEM. */
-int32_t qs_stream_set_priority(qs_conn *conn, uint64_t id, int32_t priority);
+/** Reads the priority of a stream.
+ * @param[out] priority written with QS_OK only
+ * @retval QS_OK *priority is set
+ * @retval QS_ERR_NO_STREAM the send side is closed or never existed */
+QS_API int32_t qs_stream_priority(qs_conn *conn, uint64_t id,
+                                  int32_t *priority);
 
-/* The priority of a stream. QS_OK: *priority is set. QS_ERR_NO_STREAM. */
-int32_t qs_stream_priority(qs_conn *conn, uint64_t id, int32_t *priority);
-
-/* Whether the peer asked to send no more on a stream (STOP_SENDING).
- * QS_OK: it did, and *app_code is set. QS_DONE: no. QS_ERR_NO_STREAM. */
-int32_t qs_stream_stopped(qs_conn *conn, uint64_t id, uint64_t *app_code);
-
-/* Whether the peer reset a stream. QS_OK: it did, *app_code is set, and the
- * receive side is closed. QS_DONE: no. QS_ERR_NO_STREAM, QS_ERR_NOMEM. */
-int32_t qs_stream_received_reset(qs_conn *conn, uint64_t id,
+/** Asks whether the peer sent STOP_SENDING for a stream.
+ * @param[out] app_code the peer's error code, with QS_OK only
+ * @retval QS_OK it did
+ * @retval QS_DONE it did not
+ * @retval QS_ERR_NO_STREAM the send side is closed or never existed */
+QS_API int32_t qs_stream_stopped(qs_conn *conn, uint64_t id,
                                  uint64_t *app_code);
 
-/* Reads the next bytes of a stream in order, at most cap of them, and gives the
- * peer credit for them (RFC 9000 section 4.2).
- * QS_OK: *count, above 0, is how many, and *offset is the offset of the first.
- * More may be available: call again.
- * QS_ERR_BLOCKED: nothing is available now; QS_EVENT_READABLE follows.
- * QS_END: all was read, and the receive side is closed.
- * QS_ERR_RESET: the peer reset the stream, *app_code is set, and the receive
- * side is closed.
- * QS_ERR_NOMEM: nothing was read.
- * These four set *count to 0. The other errors set nothing: QS_ERR_TOO_SMALL
- * (cap is 0), QS_ERR_NO_STREAM and QS_ERR_ORDER. */
-int32_t qs_stream_read(qs_conn *conn, uint64_t id, uint8_t *data, size_t cap,
-                       size_t *count, uint64_t *offset, uint64_t *app_code);
+/** Asks whether the peer reset a stream.
+ * @param[out] app_code the peer's error code, with QS_OK only
+ * @retval QS_OK it did; this call closes the receive side
+ * @retval QS_DONE it did not
+ * @retval QS_ERR_NO_STREAM the receive side is closed or never existed
+ * @retval QS_ERR_NOMEM out of memory */
+QS_API int32_t qs_stream_received_reset(qs_conn *conn, uint64_t id,
+                                        uint64_t *app_code);
 
-/* The same for bytes in any order, as they came. After it an ordered read of
- * the same stream is QS_ERR_ORDER. */
-int32_t qs_stream_read_unordered(qs_conn *conn, uint64_t id, uint8_t *data,
-                                 size_t cap, size_t *count, uint64_t *offset,
-                                 uint64_t *app_code);
+/** Reads the next bytes of a stream in order, at most cap, and returns their
+ * credit to the peer (RFC 9000 section 4.2). Here "nothing now" is
+ * QS_ERR_BLOCKED; qs_stream_read_many and qs_stream_read_lent return QS_DONE,
+ * since bytes may come with it.
+ * @param[out] data at least cap bytes; the first *count are written
+ * @param[out] count bytes read: above 0 with QS_OK; 0 with QS_ERR_BLOCKED,
+ *             QS_END, QS_ERR_RESET and QS_ERR_NOMEM; else not written
+ * @param[out] offset of the first byte, with QS_OK only
+ * @param[out] app_code the peer's error code, with QS_ERR_RESET only
+ * @retval QS_OK more may be available: call again
+ * @retval QS_ERR_BLOCKED nothing is available now; QS_EVENT_READABLE follows
+ * @retval QS_END all was read, and the receive side is closed
+ * @retval QS_ERR_RESET the peer reset the stream; the receive side is closed
+ * @retval QS_ERR_NOMEM out of memory; nothing was read
+ * @retval QS_ERR_TOO_SMALL cap is 0
+ * @retval QS_ERR_NO_STREAM the receive side is closed or never existed
+ * @retval QS_ERR_ORDER the stream was read unordered before */
+QS_API int32_t qs_stream_read(qs_conn *conn, uint64_t id, uint8_t *data,
+                              size_t cap, size_t *count, uint64_t *offset,
+                              uint64_t *app_code);
 
-/* Reads the next bytes of a stream in order as qs_stream_read does, but of
- * several frames in one call, and returns with the bytes whether more may come.
- * Up to 64 pieces are read. Each has its share of cap, at least 2048 bytes
- * where cap has them.
- * *count is set, and may be 0; *offset is set where *count is above 0.
- * QS_OK: more may be available: call again.
- * QS_DONE: nothing more is available now; QS_EVENT_READABLE follows.
- * QS_END: nothing more comes, and the receive side is closed.
- * QS_ERR_RESET: *count is 0, *app_code is set, and the receive side is closed.
- * QS_ERR_NOMEM: *count is 0.
- * The other errors set nothing: QS_ERR_TOO_SMALL (cap is 0), QS_ERR_NO_STREAM
- * and QS_ERR_ORDER. */
-int32_t qs_stream_read_many(qs_conn *conn, uint64_t id, uint8_t *data,
-                            size_t cap, size_t *count, uint64_t *offset,
-                            uint64_t *app_code);
+/** Reads received bytes of a stream in any order; else as qs_stream_read. After
+ * it an ordered read of the same stream is QS_ERR_ORDER.
+ * @copydetails qs_stream_read */
+QS_API int32_t qs_stream_read_unordered(qs_conn *conn, uint64_t id,
+                                        uint8_t *data, size_t cap,
+                                        size_t *count, uint64_t *offset,
+                                        uint64_t *app_code);
 
-/* Bytes that are lent: len of those at memory, from start on. */
+/** Reads the next bytes of a stream in order, those of several frames in one
+ * call, and returns with them whether more may follow. It reads up to 64
+ * segments; each has an equal share of cap, of at least 2048 bytes if cap has
+ * as many.
+ * @param[out] data at least cap bytes; the first *count are written
+ * @param[out] count bytes read, may be 0; 0 with QS_ERR_RESET and QS_ERR_NOMEM;
+ *             not written with the errors after these
+ * @param[out] offset of the first byte, written only if *count is above 0
+ * @param[out] app_code the peer's error code, with QS_ERR_RESET only
+ * @retval QS_OK more may be available: call again
+ * @retval QS_DONE nothing more is available now; QS_EVENT_READABLE follows
+ * @retval QS_END nothing more follows, and the receive side is closed
+ * @retval QS_ERR_RESET the peer reset the stream; the receive side is closed
+ * @retval QS_ERR_NOMEM out of memory; nothing was read
+ * @retval QS_ERR_TOO_SMALL cap is 0
+ * @retval QS_ERR_NO_STREAM the receive side is closed or never existed
+ * @retval QS_ERR_ORDER the stream was read unordered before */
+QS_API int32_t qs_stream_read_many(qs_conn *conn, uint64_t id, uint8_t *data,
+                                   size_t cap, size_t *count, uint64_t *offset,
+                                   uint64_t *app_code);
+
+/** Lent bytes: the len bytes at memory + start. */
 typedef struct qs_slice {
-  const uint8_t *memory;
-  size_t start;
-  size_t len;
+  const uint8_t *memory; /**< memory of the session */
+  size_t start;          /**< index of the first byte */
+  size_t len;            /**< how many bytes */
 } qs_slice;
 
+/** The first byte of a slice. */
 static inline const uint8_t *qs_slice_data(const qs_slice *slice) {
   return slice->memory + slice->start;
 }
 
-/* Reads the next bytes of a stream in order as qs_stream_read_many does, but
- * copies none: slices are set to where they are, in memory of the session, one
- * for each frame whose data it gives. The bytes may be read until the next call
- * on the handle. At most max slices are set, and at most 64.
- * *count is how many, and may be 0; *offset is set where it is above 0, to the
- * offset of the first byte.
- * The return values are those of qs_stream_read_many. QS_ERR_TOO_SMALL: max is
- * 0. */
-int32_t qs_stream_read_lent(qs_conn *conn, uint64_t id, qs_slice *slices,
-                            size_t max, size_t *count, uint64_t *offset,
-                            uint64_t *app_code);
+/** Reads the next bytes of a stream in order as qs_stream_read_many does, but
+ * copies none: slices show where they are in memory of the session, one for
+ * each frame. They are valid until the next call on the handle. slices has room
+ * for max of them, at most 64 are written, and *count says how many. Where
+ * qs_stream_read_many names cap, it is max here.
+ * @copydetails qs_stream_read_many */
+QS_API int32_t qs_stream_read_lent(qs_conn *conn, uint64_t id, qs_slice *slices,
+                                   size_t max, size_t *count, uint64_t *offset,
+                                   uint64_t *app_code);
 
-/* ---- windows, counts, events --------------------------------------------- */
+/* ---- windows, limits, events --------------------------------------------- */
+/** Sets how many written bytes are buffered at most until they are
+ * acknowledged. Any number.
+ * @retval QS_OK done */
+QS_API int32_t qs_set_send_window(qs_conn *conn, uint64_t window);
 
-/* Sets how many written bytes are kept at most until they are acknowledged. */
-int32_t qs_set_send_window(qs_conn *conn, uint64_t window);
+/** Sets how many bytes of all streams may be received and not read. A smaller
+ * window takes back no credit that was advertised.
+ * @retval QS_OK done */
+QS_API int32_t qs_set_receive_window(qs_conn *conn, uint64_t window);
 
-/* Sets how many bytes of all streams together may be received and not read. A
- * smaller window takes back no credit that was given. */
-int32_t qs_set_receive_window(qs_conn *conn, uint64_t window);
+/** Sets how many streams of a direction the peer may use at a time. A lower
+ * number takes back none that were allowed. Time and memory grow with count.
+ * @retval QS_OK done
+ * @retval QS_ERR_NOMEM out of memory */
+QS_API int32_t qs_set_max_concurrent(qs_conn *conn, uint32_t dir,
+                                     uint64_t count);
 
-/* Sets how many streams of a direction the peer may use at a time. A lower
- * count takes back none that was permitted. QS_ERR_NOMEM. */
-int32_t qs_set_max_concurrent(qs_conn *conn, uint32_t dir, uint64_t count);
-
+/** The kinds of events. The first data of a new stream raises QS_EVENT_OPENED
+ * and no QS_EVENT_READABLE; later data of a stream that is not yet accepted
+ * raises QS_EVENT_READABLE, and is read after it is accepted. A datagram that
+ * qs_datagram_recv found too long for its buffer does not count for
+ * QS_EVENT_DATAGRAM. */
 enum {
-  QS_EVENT_OPENED = 1,       /* the peer opened streams of dir: accept and
-                                read them, since data may have come with it */
-  QS_EVENT_READABLE = 2,     /* id may have bytes, an end or a reset to read */
-  QS_EVENT_WRITABLE = 3,     /* id was blocked and may take bytes now */
-  QS_EVENT_FINISHED = 4,     /* all of id was acknowledged, with its end */
-  QS_EVENT_STOPPED = 5,      /* the peer sent STOP_SENDING, app_code, for id */
-  QS_EVENT_AVAILABLE = 6,    /* more streams of dir may be opened */
-  QS_EVENT_DATAGRAM = 7,     /* a datagram can be read, and none could before */
-  QS_EVENT_DATAGRAM_ROOM = 8 /* a blocked datagram may be queued now */
+  QS_EVENT_OPENED = 1,    /**< the peer opened streams of dir: accept, read */
+  QS_EVENT_READABLE = 2,  /**< id may have bytes, FIN or a reset to read */
+  QS_EVENT_WRITABLE = 3,  /**< id was blocked and may accept bytes now */
+  QS_EVENT_FINISHED = 4,  /**< all data of id and its FIN are acknowledged */
+  QS_EVENT_STOPPED = 5,   /**< STOP_SENDING, app_code, for id: reset it */
+  QS_EVENT_AVAILABLE = 6, /**< more streams of dir may be opened */
+  QS_EVENT_DATAGRAM = 7,  /**< a datagram can be read, and none could before */
+  QS_EVENT_DATAGRAM_ROOM = 8 /**< a blocked datagram may be queued now */
 };
 
+/** An event. Look at kind first: a field that the kind does not have is 0, and
+ * 0 is a stream id, a direction and an error code too. */
 typedef struct qs_event {
-  uint32_t kind;
-  uint32_t dir;
-  uint64_t id;
-  uint64_t app_code;
+  uint32_t kind;     /**< QS_EVENT_* */
+  uint32_t dir;      /**< with each kind but the datagrams': QS_BIDI, QS_UNI */
+  uint64_t id;       /**< READABLE, WRITABLE, FINISHED, STOPPED: the stream */
+  uint64_t app_code; /**< STOPPED: application error code */
 } qs_event;
 
-/* Takes the next event. QS_OK: *event is set. QS_DONE: there is none. */
-int32_t qs_poll(qs_conn *conn, qs_event *event);
+/** Removes and returns the next event.
+ * @param[out] event written with QS_OK only
+ * @retval QS_OK *event is set
+ * @retval QS_DONE there is none */
+QS_API int32_t qs_poll(qs_conn *conn, qs_event *event);
 
+/** The state of a session. */
 typedef struct qs_info {
-  uint64_t max_concurrent_bidi, max_concurrent_uni; /* as they were set */
-  uint64_t max_remote_bidi, max_remote_uni;   /* the peer may open the streams
-                                                 of a lower index */
-  uint64_t next_remote_bidi, next_remote_uni; /* the index of the stream that
-                                                 the peer opens next */
-  uint64_t remote_open_bidi, remote_open_uni; /* how many the peer has open */
-  uint64_t local_max_data; /* how many bytes the peer may send in all */
-  uint64_t data_received;  /* how many bytes it sent */
-  uint64_t write_limit;    /* how many bytes may be written now, on all streams
-                              together */
-  uint64_t send_streams;   /* how many streams have a send side that is held */
-  uint64_t payloads;       /* how many payloads are not settled */
-  uint64_t can_send_stream_data; /* 1: data wait to be sent */
-  uint64_t has_pending;          /* 1: control frames wait to be sent */
+  uint64_t max_concurrent_bidi, max_concurrent_uni; /**< as they were set */
+  uint64_t max_remote_bidi, max_remote_uni;   /**< the peer may open the streams
+                                                   of a lower index */
+  uint64_t next_remote_bidi, next_remote_uni; /**< index of the peer's next */
+  uint64_t remote_open_bidi, remote_open_uni; /**< how many the peer has open */
+  uint64_t local_max_data; /**< bytes that the peer may send in all */
+  uint64_t data_received;  /**< bytes that it sent */
+  uint64_t write_limit;    /**< bytes that may be written on all streams */
+  uint64_t send_streams;   /**< streams whose send side is open */
+  uint64_t payloads;       /**< payloads not reported yet */
+  uint64_t can_send_stream_data; /**< 1: stream data is pending */
+  uint64_t has_pending;          /**< 1: control frames are pending */
 } qs_info;
 
-/* The state of the session. QS_OK: *info is set. */
-int32_t qs_get_info(qs_conn *conn, qs_info *info);
+/** Reads the state of the session.
+ * @param[out] info written with QS_OK only
+ * @retval QS_OK *info is set */
+QS_API int32_t qs_get_info(qs_conn *conn, qs_info *info);
 
 /* ---- buffers ------------------------------------------------------------- */
-
-/* Memory for one payload, for a host that copies none: qs_emit_buffer writes
- * into it, and qs_receive_buffer takes a payload out of it. In between the host
+/** Memory for one payload, for a host that copies none: qs_emit_buffer writes
+ * into it, qs_receive_buffer takes a payload out of it. In between the host
  * reads and writes the len bytes at data, for example to encrypt or decrypt a
- * packet in place. All zero bytes are a closed buffer. As a handle it may be
- * moved, but never copied. A buffer belongs to no session. Each call on a
- * buffer sets data and len, which the library never reads. */
+ * packet in place. All zero bytes are a closed buffer. Like a handle it may be
+ * moved, but never copied. A buffer belongs to no session. The library sets
+ * data and len and never reads them: after each call they show the bytes of an
+ * open buffer, and are NULL and 0 for a closed one. A call on a closed handle
+ * leaves the buffer as it is. */
 typedef struct qs_buffer {
-  uint64_t live;
-  void *at;
-  uint8_t *data;
-  size_t len;
+  uint64_t live; /**< private: 1 if open */
+  void *at;      /**< private */
+  uint8_t *data; /**< the bytes; may be NULL if len is 0 */
+  size_t len;    /**< how many bytes */
 } qs_buffer;
 
+/** A closed buffer. */
 #define QS_BUFFER_INIT                                                         \
   { 0, NULL, NULL, 0 }
 
-/* Makes a buffer at least size bytes long: zeros are put behind those that it
- * has. A closed buffer is opened. QS_ERR_NOMEM: its bytes stay, and a closed
- * one stays closed. */
-int32_t qs_buffer_reserve(qs_buffer *buffer, size_t size);
+/** Makes a buffer at least size bytes long, with zeros after its bytes. A
+ * closed buffer is opened.
+ * @retval QS_OK len is at least size
+ * @retval QS_ERR_NOMEM out of memory; the bytes stay, and a closed buffer stays
+ *         closed. Never returned for an open buffer that is long enough. */
+QS_API int32_t qs_buffer_reserve(qs_buffer *buffer, size_t size);
 
-/* Frees the memory of a buffer, and closes it. */
-void qs_buffer_free(qs_buffer *buffer);
+/** Frees the memory of a buffer, and closes it. A closed one stays closed. */
+QS_API void qs_buffer_free(qs_buffer *buffer);
 
-/* ---- what came from the peer --------------------------------------------- */
-
+/* ---- receiving ----------------------------------------------------------- */
+/** Why the connection has to be closed. */
 typedef struct qs_error {
-  uint64_t code;       /* RFC 9000 section 20.1, for CONNECTION_CLOSE */
-  uint64_t reason_len; /* at most 80 */
-  uint8_t reason[80];  /* a text without a NUL, for CONNECTION_CLOSE */
+  uint64_t code;       /**< RFC 9000 section 20.1, for CONNECTION_CLOSE */
+  uint64_t reason_len; /**< at most 80; 0: no text (STREAM_LIMIT_ERROR) */
+  uint8_t reason[80];  /**< text without a NUL, for CONNECTION_CLOSE */
 } qs_error;
 
-/* Takes a whole payload of RESET_STREAM, STOP_SENDING, STREAM, MAX_DATA,
+/** Processes the frames of a payload from the offset *next on, and copies their
+ * data. It processes RESET_STREAM, STOP_SENDING, STREAM, MAX_DATA,
  * MAX_STREAM_DATA, MAX_STREAMS, DATA_BLOCKED, STREAM_DATA_BLOCKED and DATAGRAM
- * frames, and copies it. It begins with the frame at place *next; 0 is the
- * first. Each of these return values sets *next to the place of the first frame
- * that was not taken.
- * QS_OK: all were taken.
- * QS_ERR_NOMEM: those before *next were taken. Call again with the same *next,
- * or treat the packet as one that did not come: frames that are taken twice do
- * no harm.
- * QS_ERR_PROTOCOL, QS_ERR_MALFORMED: *error is set; close the connection. Of a
- * malformed payload nothing was taken.
+ * frames, skips PADDING, PING and STREAMS_BLOCKED, and stops in front of any
+ * other frame, such as ACK or CRYPTO. The host processes that frame, sets *next
+ * to the offset behind it, and calls again, until the result is another one
+ * than QS_OTHER_FRAME. A type that is encoded in more than one byte is another
+ * frame. The host checks which frames its packet may have (RFC 9000 section
+ * 12.4), and rejects a type that nobody knows (FRAME_ENCODING_ERROR) and a
+ * payload without frames: with len 0 the result is QS_OK.
+ *
  * A STOP_SENDING frame for a stream on which only the peer sends, or for one of
- * this end that is not open, and a STREAM_DATA_BLOCKED frame for a stream on
- * which only this end sends, are QS_ERR_PROTOCOL with the code 5,
- * STREAM_STATE_ERROR (RFC 9000 sections 19.5 and 19.13). */
-int32_t qs_receive(qs_conn *conn, const uint8_t *payload, size_t len,
-                   size_t *next, qs_error *error);
-
-/* The same for the first len bytes of a buffer, but these are not copied where
- * they leave at most an eighth of its memory free: they stay in it, and the
- * buffer gets other memory, with any bytes. It may be shorter then: call
- * qs_buffer_reserve before the next packet.
- * QS_ERR_CLOSED: the handle or the buffer is closed. QS_ERR_ARGUMENT: len is
- * above the length of the buffer. QS_ERR_NOMEM: as above, but the buffer may
- * have lost the payload: treat the packet as one that did not come. */
-int32_t qs_receive_buffer(qs_conn *conn, qs_buffer *buffer, size_t len,
+ * this endpoint that is not open, and a STREAM_DATA_BLOCKED frame for a stream
+ * on which only this endpoint sends, are QS_ERR_PROTOCOL with
+ * STREAM_STATE_ERROR (sections 19.5 and 19.13).
+ * @param payload len bytes; may be NULL if len is 0
+ * @param[in,out] next offset of the frame to begin with, 0 in each new payload;
+ *                set to the offset of the first byte that was not processed,
+ *                except with QS_ERR_CLOSED and QS_ERR_ARGUMENT
+ * @param[out] error written with QS_ERR_PROTOCOL and QS_ERR_MALFORMED only
+ * @retval QS_OK everything was processed; *next is len
+ * @retval QS_OTHER_FRAME a frame that the host processes begins at *next
+ * @retval QS_ERR_NOMEM the frames before *next were processed. Call again with
+ *         the same *next, or treat the packet as not received: processing a
+ *         frame twice does no harm.
+ * @retval QS_ERR_PROTOCOL close the connection with *error. The frames before
+ *         *next were processed, the one at *next was rejected. If the
+ *         reassembly limit is exceeded (INTERNAL_ERROR), its data stays
+ *         buffered.
+ * @retval QS_ERR_MALFORMED close the connection with *error. The frames before
+ *         *next were processed. At *next begin frames of the library of which
+ *         one is malformed, and none of them was processed; or STREAMS_BLOCKED,
+ *         malformed or with a limit above 2^60 (section 19.14).
+ * @retval QS_ERR_ARGUMENT *next is above len */
+QS_API int32_t qs_receive(qs_conn *conn, const uint8_t *payload, size_t len,
                           size_t *next, qs_error *error);
 
-/* For a host that decodes frames itself: one call for each frame, with the
- * fields of RFC 9000 section 19. QS_ERR_NOMEM: the frame was not taken.
- * QS_ERR_PROTOCOL: *error is set; close the connection. STOP_SENDING is refused
- * so where qs_receive refuses it. DATA_BLOCKED and STREAM_DATA_BLOCKED change
- * nothing and have no call: the host refuses the STREAM_DATA_BLOCKED frames
- * that qs_receive would refuse.
- * payload_len is the length of the memory in which the data came. It is counted
- * so that many small frames cannot hold much memory; len counts, if
- * payload_len is less. */
-int32_t qs_on_stream(qs_conn *conn, uint64_t id, uint64_t offset,
-                     const uint8_t *data, size_t len, uint32_t fin,
-                     size_t payload_len, qs_error *error);
-int32_t qs_on_reset_stream(qs_conn *conn, uint64_t id, uint64_t app_code,
-                           uint64_t final_size, qs_error *error);
-int32_t qs_on_stop_sending(qs_conn *conn, uint64_t id, uint64_t app_code,
-                           qs_error *error);
-int32_t qs_on_max_data(qs_conn *conn, uint64_t limit, qs_error *error);
-int32_t qs_on_max_stream_data(qs_conn *conn, uint64_t id, uint64_t limit,
+/** Processes a payload as qs_receive does, from the first len bytes of a
+ * buffer. If it has frames of the library alone, *next is 0 and they leave at
+ * most an eighth of the buffer's memory unused, they are not copied: they stay
+ * there, and the buffer gets other memory with any bytes, which may be shorter.
+ * Call qs_buffer_reserve before the next packet. Otherwise the data is copied,
+ * and the buffer stays as it is.
+ *
+ * A closed buffer is QS_ERR_CLOSED, a len above its length QS_ERR_ARGUMENT. If
+ * a payload was not copied, *next is 0 after an error, and after QS_ERR_NOMEM
+ * the buffer may have lost the payload: treat the packet as not received.
+ * @copydetails qs_receive */
+QS_API int32_t qs_receive_buffer(qs_conn *conn, qs_buffer *buffer, size_t len,
+                                 size_t *next, qs_error *error);
+
+/** Processes a STREAM frame (RFC 9000 section 19.8), for a host that decodes
+ * frames itself. The qs_on_ calls take one frame each, with its fields.
+ * DATA_BLOCKED and STREAM_DATA_BLOCKED change nothing and have no call: the
+ * host rejects the STREAM_DATA_BLOCKED frames that qs_receive rejects.
+ * @param data len bytes; may be NULL if len is 0
+ * @param fin not 0 if the frame has the FIN bit
+ * @param payload_len length of the memory in which the data was received. It is
+ *        counted so that many small frames cannot pin much memory; len counts
+ *        if payload_len is less.
+ * @param[out] error written with QS_ERR_PROTOCOL only
+ * @retval QS_OK the frame was processed
+ * @retval QS_ERR_PROTOCOL close the connection with *error
+ * @retval QS_ERR_NOMEM out of memory; the frame was not processed */
+QS_API int32_t qs_on_stream(qs_conn *conn, uint64_t id, uint64_t offset,
+                            const uint8_t *data, size_t len, uint32_t fin,
+                            size_t payload_len, qs_error *error);
+
+/** @name Single frames
+ * Each processes one frame (RFC 9000 section 19, RFC 9221 section 4). A
+ * STOP_SENDING frame is rejected where qs_receive rejects it.
+ * @param[out] error written with QS_ERR_PROTOCOL only
+ * @retval QS_OK the frame was processed
+ * @retval QS_ERR_PROTOCOL close the connection with *error
+ * @retval QS_ERR_NOMEM out of memory; the frame was not processed
+ * @{ */
+QS_API int32_t qs_on_reset_stream(qs_conn *conn, uint64_t id, uint64_t app_code,
+                                  uint64_t final_size, qs_error *error);
+QS_API int32_t qs_on_stop_sending(qs_conn *conn, uint64_t id, uint64_t app_code,
+                                  qs_error *error);
+QS_API int32_t qs_on_max_data(qs_conn *conn, uint64_t limit, qs_error *error);
+QS_API int32_t qs_on_max_stream_data(qs_conn *conn, uint64_t id, uint64_t limit,
+                                     qs_error *error);
+QS_API int32_t qs_on_max_streams(qs_conn *conn, uint32_t dir, uint64_t count,
+                                 qs_error *error);
+QS_API int32_t qs_on_datagram(qs_conn *conn, const uint8_t *data, size_t len,
                               qs_error *error);
-int32_t qs_on_max_streams(qs_conn *conn, uint32_t dir, uint64_t count,
-                          qs_error *error);
-int32_t qs_on_datagram(qs_conn *conn, const uint8_t *data, size_t len,
-                       qs_error *error);
+/** @} */
 
-/* ---- what goes to the peer ----------------------------------------------- */
-
+/* ---- sending ------------------------------------------------------------- */
+/** The parts of a payload, which are written in this order. */
 enum {
-  QS_CONTROL = 1,   /* RESET_STREAM, STOP_SENDING, MAX_*, *_BLOCKED */
-  QS_DATAGRAMS = 2, /* DATAGRAM */
-  QS_STREAMS = 4,   /* STREAM */
-  QS_ALL = 7
+  QS_CONTROL = 1,   /**< RESET_STREAM, STOP_SENDING, MAX_*, *_BLOCKED */
+  QS_DATAGRAMS = 2, /**< DATAGRAM */
+  QS_STREAMS = 4,   /**< STREAM */
+  QS_ALL = 7        /**< all of them */
 };
 
+/** The least cap with which each pending control frame and STREAM frame can be
+ * written. A pending datagram needs its length and its frame's header, and at
+ * least 10 bytes. With less, qs_emit may return QS_DONE although qs_get_due
+ * reports pending frames. */
+#define QS_MIN_ROOM 26
+
+/** A payload that was written. */
 typedef struct qs_payload {
-  uint64_t len;   /* how many bytes were written */
-  uint64_t token; /* names the payload until it is settled; never 0, and never
-                     used again in this session */
-  uint64_t ends;  /* 1: nothing may follow in the packet, not even padding: the
-                     last frame may be a STREAM frame without a length */
+  uint64_t len;   /**< how many bytes */
+  uint64_t token; /**< names the payload until it is reported; never 0, and
+                       never used again in this session */
+  uint64_t ends;  /**< 1: nothing may follow in the packet, not even padding:
+                       the last frame may be a STREAM frame without a length */
 } qs_payload;
 
-/* Writes what is due into at most cap bytes: the parts that are named, in the
- * order above. Where fair is not 0, streams of one priority take turns; else
- * one goes on until it has nothing left.
- * QS_OK: *payload is set. More may be due: call again for the next packet, or
- * for the rest of this one. QS_DONE: nothing that is due fits.
- * QS_ERR_NOMEM: nothing was written. (Where memory runs out after some frames,
- * QS_OK is returned with these.)
- * A host that lays out its packets itself calls this for single parts. Each
- * call makes a payload of its own, and a packet may have several. */
-int32_t qs_emit(qs_conn *conn, uint32_t parts, uint32_t fair, uint8_t *data,
-                size_t cap, qs_payload *payload);
+/** Writes pending frames, at most cap bytes, of the named parts. A host that
+ * lays out its packets itself calls it for single parts: each call makes a
+ * payload of its own, and a packet may have several.
+ * @param parts QS_CONTROL, QS_DATAGRAMS and QS_STREAMS, or'ed
+ * @param fair not 0: streams of one priority take turns; 0: one goes on until
+ *        it has nothing left
+ * @param[out] data at least cap bytes; the first payload->len are written
+ * @param cap at least QS_MIN_ROOM, or pending frames may not fit
+ * @param[out] payload written with QS_OK only
+ * @retval QS_OK *payload is set. More may be pending: call again for the next
+ *         packet, or for the rest of this one. If memory runs out after some
+ *         frames, these are the payload.
+ * @retval QS_DONE no pending frame of these parts fits into cap bytes
+ * @retval QS_ERR_NOMEM out of memory; nothing was written */
+QS_API int32_t qs_emit(qs_conn *conn, uint32_t parts, uint32_t fair,
+                       uint8_t *data, size_t cap, qs_payload *payload);
 
-/* The same, but the payload is not copied: it stays in memory of the session.
- * QS_OK: *payload is set, and *data points to its first byte. The bytes may be
- * read until the next call on the handle. */
-int32_t qs_emit_lent(qs_conn *conn, uint32_t parts, uint32_t fair, size_t cap,
-                     const uint8_t **data, qs_payload *payload);
+/** Writes pending frames as qs_emit does, into memory of the session, where
+ * they are valid until the next call on the handle. *data is set to where they
+ * begin, with QS_OK only.
+ * @copydetails qs_emit */
+QS_API int32_t qs_emit_lent(qs_conn *conn, uint32_t parts, uint32_t fair,
+                            size_t cap, const uint8_t **data,
+                            qs_payload *payload);
 
-/* The same, but the payload is written into a buffer, which has it alone then:
- * its len is payload->len. What it had before is gone. Only QS_OK changes the
- * buffer. QS_ERR_CLOSED: the handle or the buffer is closed. */
-int32_t qs_emit_buffer(qs_conn *conn, uint32_t parts, uint32_t fair, size_t cap,
-                       qs_buffer *buffer, qs_payload *payload);
+/** Writes pending frames as qs_emit does, into an open buffer; a closed one is
+ * QS_ERR_CLOSED. With QS_OK the buffer has the payload alone, and its len is
+ * payload->len; else its bytes stay.
+ * @copydetails qs_emit */
+QS_API int32_t qs_emit_buffer(qs_conn *conn, uint32_t parts, uint32_t fair,
+                              size_t cap, qs_buffer *buffer,
+                              qs_payload *payload);
 
+/** What is pending, each 0 or 1. */
 typedef struct qs_due {
-  uint64_t control;   /* 1: control frames wait to be sent */
-  uint64_t datagrams; /* 1: datagrams wait */
-  uint64_t streams;   /* 1: data of streams wait */
+  uint64_t control;   /**< control frames */
+  uint64_t datagrams; /**< datagrams */
+  uint64_t streams;   /**< stream data */
 } qs_due;
 
-/* What waits to be sent. QS_OK: *due is set. */
-int32_t qs_get_due(qs_conn *conn, qs_due *due);
+/** Asks what is pending.
+ * @param[out] due written with QS_OK only
+ * @retval QS_OK *due is set */
+QS_API int32_t qs_get_due(qs_conn *conn, qs_due *due);
 
-/* Reports that the packet of a payload was acknowledged, or is taken to be lost
- * (RFC 9000 section 13.3). Each payload is settled once, by one of the two.
- * QS_ERR_TOKEN: it was settled, or never written. QS_ERR_NOMEM: a part of it
- * was settled and stays so, and the token names the rest: call again. */
-int32_t qs_acked(qs_conn *conn, uint64_t token);
-int32_t qs_lost(qs_conn *conn, uint64_t token);
+/** Reports that the packet of a payload was acknowledged (RFC 9000 section
+ * 13.3). Report each payload once, as acknowledged or as lost.
+ * @retval QS_OK the token is unknown from now on
+ * @retval QS_ERR_TOKEN it was reported, or never given. A late acknowledgement
+ *         of a payload that was reported lost needs no call, and returns this.
+ * @retval QS_ERR_NOMEM a part was reported and stays so, and the token names
+ *         the rest: call again */
+QS_API int32_t qs_acked(qs_conn *conn, uint64_t token);
+
+/** Reports that the packet of a payload is declared lost: its frames become
+ * pending again, if they are still of use. A PTO probe (RFC 9002 section 6.2.4)
+ * that is to carry the data of a payload again reports it lost first.
+ * @retval QS_OK the token is unknown from now on
+ * @retval QS_ERR_TOKEN it was reported, or never given
+ * @retval QS_ERR_NOMEM a part was reported and stays so, and the token names
+ *         the rest: call again */
+QS_API int32_t qs_lost(qs_conn *conn, uint64_t token);
 
 /* ---- datagrams (RFC 9221) ------------------------------------------------ */
+/** Queues a datagram, and copies it.
+ * @param data len bytes; may be NULL if len is 0
+ * @param drop_oldest not 0: the oldest pending datagrams are dropped until it
+ *        fits
+ * @retval QS_OK the datagram is pending
+ * @retval QS_ERR_BLOCKED others leave no room, and drop_oldest is 0;
+ *         QS_EVENT_DATAGRAM_ROOM follows
+ * @retval QS_ERR_TOO_LARGE it is longer than the path, the peer or
+ *         datagram_send allows
+ * @retval QS_ERR_DATAGRAMS_OFF the peer accepts none, or datagram_receive is
+ *         QS_NONE
+ * @retval QS_ERR_NOMEM out of memory */
+QS_API int32_t qs_datagram_send(qs_conn *conn, const uint8_t *data, size_t len,
+                                uint32_t drop_oldest);
 
-/* Queues a datagram, and copies it. Where drop_oldest is not 0, the oldest
- * waiting datagrams are dropped until it fits. Else it may be QS_ERR_BLOCKED;
- * QS_EVENT_DATAGRAM_ROOM follows. QS_ERR_TOO_LARGE, QS_ERR_DATAGRAMS_OFF,
- * QS_ERR_NOMEM. */
-int32_t qs_datagram_send(qs_conn *conn, const uint8_t *data, size_t len,
-                         uint32_t drop_oldest);
+/** Removes the oldest received datagram and returns it.
+ * @param[out] data at least cap bytes; the first *count are written with QS_OK
+ *             only
+ * @param[out] count its length, with QS_OK and QS_ERR_TOO_SMALL
+ * @retval QS_OK the datagram is in data
+ * @retval QS_DONE none was received
+ * @retval QS_ERR_TOO_SMALL it is longer than cap and stays the oldest; from now
+ *         on it does not count against datagram_receive */
+QS_API int32_t qs_datagram_recv(qs_conn *conn, uint8_t *data, size_t cap,
+                                size_t *count);
 
-/* Takes the oldest received datagram. QS_OK: *count is its length. QS_DONE:
- * none waits. QS_ERR_TOO_SMALL: *count is its length, and it still waits. */
-int32_t qs_datagram_recv(qs_conn *conn, uint8_t *data, size_t cap,
-                         size_t *count);
+/** The length of the longest datagram that the path and the peer accept, as it
+ * was set. It is returned also if datagram_receive is QS_NONE.
+ * @param[out] size written with QS_OK only
+ * @retval QS_OK *size is set
+ * @retval QS_ERR_DATAGRAMS_OFF the peer accepts none */
+QS_API int32_t qs_datagram_max_size(qs_conn *conn, size_t *size);
 
-/* The length of the longest datagram that can be sent. QS_OK: *size is set.
- * QS_ERR_DATAGRAMS_OFF: the peer takes none. */
-int32_t qs_datagram_max_size(qs_conn *conn, size_t *size);
+/** The free room among the pending datagrams: the length of the longest that
+ * datagram_send can still take without dropping another. The limit of the path
+ * and the peer may be lower; see qs_datagram_max_size.
+ * @param[out] size written with QS_OK only
+ * @retval QS_OK *size is set */
+QS_API int32_t qs_datagram_send_space(qs_conn *conn, size_t *size);
 
-/* The length of the longest datagram that can be queued now without dropping
- * another. QS_OK: *size is set. */
-int32_t qs_datagram_send_space(qs_conn *conn, size_t *size);
+/** Sets the length of the longest datagram that the path and the peer accept,
+ * and drops longer ones that are pending.
+ * @param size any number; QS_NONE: the peer accepts none
+ * @retval QS_OK done */
+QS_API int32_t qs_datagram_set_max_size(qs_conn *conn, uint64_t size);
 
-/* Sets the length of the longest datagram that the path and the peer take
- * (QS_NONE: the peer takes none), and drops longer ones that wait. */
-int32_t qs_datagram_set_max_size(qs_conn *conn, uint64_t size);
+/* ---- calls of this header alone ------------------------------------------ */
+/** Bytes to be written. */
+typedef struct qs_piece {
+  const uint8_t *data; /**< may be NULL if len is 0 */
+  size_t len;          /**< how many bytes */
+} qs_piece;
 
-/* ---- ids (RFC 9000 section 2.1), in this header alone ---------------------
- */
+/** Writes several pieces one after the other, by qs_stream_write, and then
+ * finishes the stream, by qs_stream_finish, if fin is not 0.
+ * @param pieces count of them; may be NULL if count is 0
+ * @param[out] written bytes of all pieces that were written; always set
+ * @param[out] app_code the peer's error code, with QS_ERR_STOPPED only
+ * @return QS_OK if all was written, and the stream finished if asked. Any
+ *         other value is that of the call at which it stopped, after *written
+ *         bytes: after QS_ERR_BLOCKED go on with the rest when
+ *         QS_EVENT_WRITABLE is raised. */
+static inline int32_t qs_stream_writev(qs_conn *conn, uint64_t id,
+                                       const qs_piece *pieces, size_t count,
+                                       uint32_t fin, size_t *written,
+                                       uint64_t *app_code) {
+  size_t piece, at, taken;
+  *written = 0;
+  for (piece = 0; piece < count; piece++)
+    for (at = 0; at < pieces[piece].len; at += taken, *written += taken) {
+      const int32_t result =
+          qs_stream_write(conn, id, pieces[piece].data + at,
+                          pieces[piece].len - at, &taken, app_code);
+      if (result != QS_OK)
+        return result;
+    }
+  return fin ? qs_stream_finish(conn, id, app_code) : QS_OK;
+}
 
+/** Whether a stream is unidirectional (RFC 9000 section 2.1). */
 static inline int qs_id_is_uni(uint64_t id) { return (id & 2) != 0; }
+/** Whether the server opens a stream. */
 static inline int qs_id_is_server(uint64_t id) { return (id & 1) != 0; }
+/** How many streams of its kind have a lower id. */
 static inline uint64_t qs_id_index(uint64_t id) { return id >> 2; }
+/** The id of a stream, from QS_CLIENT or QS_SERVER, QS_BIDI or QS_UNI, and its
+ * index below 2^60. */
+static inline uint64_t qs_id(uint32_t side, uint32_t dir, uint64_t index) {
+  return index << 2 | (uint64_t)dir << 1 | side;
+}
 
 #ifdef __cplusplus
 }

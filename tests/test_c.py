@@ -8,6 +8,7 @@ import shutil
 import subprocess
 import tempfile
 import unittest
+from random import Random
 
 ROOT = os.path.dirname(os.path.dirname(os.path.abspath(__file__)))
 LIB = os.environ.get("QUIC_STREAMS_LIB_DIR") or os.path.join(ROOT, "build", "lib")
@@ -73,11 +74,20 @@ class Programs(Built):
     def test_one_end(self):
         self.assertIn("12 tests", run(self.build("one_end")))
 
+    def test_stopped_streams_and_closed_buffers(self):
+        self.assertIn("2 tests", run(self.build("stopped")))
+
+    def test_payloads_with_frames_of_the_host(self):
+        self.assertIn("6 tests", run(self.build("other_frames")))
+
     def test_each_number_at_its_bounds(self):
         self.assertIn("5 tests", run(self.build("bounds")))
 
     def test_buffers_and_reads_that_lend(self):
         self.assertIn("7 tests", run(self.build("buffers")))
+
+    def test_each_field_and_argument_by_a_number_of_its_own(self):
+        self.assertIn("7 tests", run(self.build("distinct")))
 
     def test_two_ends(self):
         self.assertIn("100 seeds", run(self.build("two_ends"), "100"))
@@ -94,7 +104,10 @@ class Programs(Built):
     def test_valgrind(self):
         valgrind = [tool("valgrind"), "-q", "--error-exitcode=9", "--leak-check=full", "--errors-for-leak-kinds=all"]
         run(*valgrind, self.build("one_end"))
+        run(*valgrind, self.build("stopped"))
+        run(*valgrind, self.build("other_frames"))
         run(*valgrind, self.build("bounds"))
+        run(*valgrind, self.build("distinct"))
         run(*valgrind, self.build("buffers"))
         run(*valgrind, self.build("two_ends"), "2")
         run(*valgrind, self.build("hostile"), "3000")
@@ -102,17 +115,33 @@ class Programs(Built):
     def test_address_sanitizer(self):
         flags = ["-fsanitize=address,undefined", "-fno-sanitize-recover=all"]
         run(self.build("one_end", *flags))
+        run(self.build("stopped", *flags))
+        run(self.build("other_frames", *flags))
         run(self.build("buffers", *flags))
+        run(self.build("distinct", *flags))
         run(self.build("two_ends", *flags), "5")
         run(self.build("hostile", *flags), "50000")
 
+    def feed(self, *harnesses):
+        """Runs harnesses of tests/fuzz over some inputs, of bytes in a pattern and of random ones."""
+        folder = os.path.join(self.room.name, "seeds")
+        os.makedirs(folder, exist_ok=True)
+        for seed in range(400):
+            random = Random(seed)
+            with open(os.path.join(folder, str(seed)), "wb") as it:
+                if seed % 2:
+                    it.write(bytes((seed * 131 + at * at * 7 + at) % 256 for at in range(600)))
+                else:
+                    it.write(bytes(random.randrange(256) for _ in range(3000)))
+        inputs = [os.path.join(folder, name) for name in sorted(os.listdir(folder))]
+        for harness in harnesses:
+            run(harness, *inputs)
+
     def test_the_fuzzing_harness_runs(self):
-        harness = self.build("two_ends", "-DMAIN", folder="tests/fuzz")
-        source = os.path.join(self.room.name, "seed")
-        for seed in range(200):
-            with open(source, "wb") as it:
-                it.write(bytes((seed * 131 + at * at * 7 + at) % 256 for at in range(600)))
-            run(harness, source)
+        self.feed(self.build("two_ends", "-DMAIN", folder="tests/fuzz"))
+
+    def test_the_harness_of_a_hostile_peer_runs(self):
+        self.feed(self.build("hostile_peer", "-DMAIN", *WRAPS, folder="tests/fuzz"))
 
 
 class Examples(Built):
@@ -131,25 +160,55 @@ class Examples(Built):
             with open(given, "rb") as one, open(got, "rb") as two:
                 self.assertEqual(one.read(), two.read())
 
-    def test_a_file_goes_both_ways_between_c_and_rust(self):
-        in_c = self.build("file_over_udp", folder="examples/c")
-        cargo = tool("cargo")
+    def in_rust(self, name):
+        """A program of examples/rust."""
         env = {**os.environ, "QUIC_STREAMS_LIB_DIR": LIB, "CARGO_TARGET_DIR": os.path.join(self.room.name, "target")}
-        run(cargo, "build", "--offline", "--quiet", cwd=os.path.join(ROOT, "examples", "rust"), env=env)
-        in_rust = os.path.join(self.room.name, "target", "debug", "file-over-udp")
+        run(tool("cargo"), "build", "--offline", "--quiet", cwd=os.path.join(ROOT, "examples", "rust"), env=env)
+        return os.path.join(self.room.name, "target", "debug", name)
+
+    def test_a_file_goes_both_ways_between_c_and_rust(self):
+        in_c, in_rust = self.build("file_over_udp", folder="examples/c"), self.in_rust("file-over-udp")
         port = 20000 + os.getpid() % 20000
         self.exchange(in_c, in_c, port)
         self.exchange(in_rust, in_c, port + 2)
         self.exchange(in_c, in_rust, port + 4)
 
+    def echo(self, server, client, port, loss):
+        with subprocess.Popen([server, "server", str(port), loss, "7"], stdout=subprocess.PIPE, text=True) as other:
+            try:
+                said = run(client, "client", str(port), loss, "3")
+                self.assertIn("80 streams echoed, 10 reset, 10 stopped", said)
+                self.assertIn("80 streams echoed, 10 reset, 10 stopped", other.communicate(timeout=60)[0])
+                self.assertEqual(other.returncode, 0)
+            finally:
+                other.kill()
+
+    def test_a_hundred_streams_are_echoed_between_c_and_rust(self):
+        in_c, in_rust = self.build("echo", folder="examples/c"), self.in_rust("echo")
+        port = 10000 + os.getpid() % 10000
+        for at, (server, client, loss) in enumerate([(in_c, in_c, "0"), (in_c, in_rust, "10"), (in_rust, in_c, "10"), (in_rust, in_rust, "0")]):
+            self.echo(server, client, port + at, loss)
+
 
 class RustCrate(Built):
+    FOLDER = os.path.join(ROOT, "bindings", "rust")
+
+    def cargo(self, *words, lib=LIB):
+        env = {**os.environ, "QUIC_STREAMS_LIB_DIR": lib, "CARGO_TARGET_DIR": os.path.join(self.room.name, "target")}
+        return run(tool("cargo"), *words, cwd=self.FOLDER, env=env)
+
     def test_its_tests_and_examples(self):
-        env = {**os.environ, "QUIC_STREAMS_LIB_DIR": LIB, "CARGO_TARGET_DIR": os.path.join(self.room.name, "target")}
-        folder = os.path.join(ROOT, "bindings", "rust")
-        said = run(tool("cargo"), "test", "--offline", cwd=folder, env=env)
+        said = self.cargo("test", "--offline", "--workspace")
         self.assertIn("test result: ok", said)
-        run(tool("cargo"), "clippy", "--offline", "--", "-D", "warnings", cwd=folder, env=env)
+        self.cargo("clippy", "--offline", "--workspace", "--all-targets", "--", "-D", "warnings")
+        self.cargo("fmt", "--all", "--check")
+
+    def test_it_is_checked_and_documented_without_the_library(self):
+        for words in (("check",), ("clippy",), ("doc", "--no-deps")):
+            self.cargo(*words, "--offline", "--workspace", lib=self.room.name)
+
+    def test_it_can_be_packed(self):
+        self.assertIn("Packaged", self.cargo("package", "--offline", "--workspace", "--allow-dirty"))
 
 
 if __name__ == "__main__":

@@ -5,8 +5,10 @@
  *
  * Of a hundred packets the program drops LOSS itself, drawn from SEED. A packet
  * is one byte, 'D' or 'A', a number of eight bytes and, after 'D', a payload;
- * 'A' acknowledges the packet of that number. No encryption, no congestion
- * control, no authentication: no way to send files over a real network. */
+ * 'A' acknowledges the packet of that number. A QUIC endpoint does more than
+ * this: it encrypts and authenticates, controls congestion, reads limits from
+ * transport parameters, processes a packet number once, and sends
+ * CONNECTION_CLOSE. This is no way to send files over a real network. */
 #define _POSIX_C_SOURCE 200809L
 #include "quic_streams.h"
 
@@ -28,7 +30,7 @@ typedef struct {
 
 typedef struct {
   qs_conn conn;
-  int fd, sends, done;
+  int fd, sends, done, stopped;
   FILE *file;
   uint64_t stream, idle_since;
   unsigned long packets, dropped, lost;
@@ -46,6 +48,8 @@ static void die(const char *what, int32_t answer) {
   exit(1);
 }
 
+/* Ends the program on an error. QS_DONE and QS_END are none: a call that may
+ * return one is compared with it. */
 static int32_t want(const char *what, int32_t answer) {
   if (answer < 0)
     die(what, answer);
@@ -71,19 +75,23 @@ static void send_packet(end *e, uint8_t kind, uint64_t number, uint8_t *packet,
     die("send", 0);
 }
 
-/* A packet was acknowledged, or is taken to be lost: its payload is settled. */
-static void settle(end *e, size_t place, int was_acked) {
-  uint64_t token = e->flight[place].token;
+/* A packet was acknowledged, or is taken to be lost: its payload is reported.
+ * Without memory it stays in flight, and the rest of it is lost later. */
+static void report(end *e, size_t place, int was_acked) {
+  const uint64_t token = e->flight[place].token;
+  const int32_t answer =
+      was_acked ? qs_acked(&e->conn, token) : qs_lost(&e->conn, token);
+  if (answer == QS_ERR_NOMEM)
+    return;
+  want("report", answer);
   e->flight[place] = e->flight[--e->flying];
   e->lost += !was_acked;
-  want("settle",
-       was_acked ? qs_acked(&e->conn, token) : qs_lost(&e->conn, token));
 }
 
-static void settle_old(end *e, uint64_t now) {
+static void report_old(end *e, uint64_t now) {
   for (size_t i = e->flying; i-- > 0;)
     if (now - e->flight[i].sent_at > LOST_AFTER_MS)
-      settle(e, i, 0);
+      report(e, i, 0);
 }
 
 /* Writes payloads until nothing is due, or enough packets are on their way. */
@@ -91,11 +99,12 @@ static void send_due(end *e, uint64_t now) {
   static uint64_t next;
   while (e->flying < FLIGHT) {
     uint8_t packet[PACKET];
-    memset(packet, 0, sizeof packet);
-    qs_payload payload = {0, 0, 0};
-    if (want("emit", qs_emit(&e->conn, QS_ALL, 1, packet + HEADER,
-                             PACKET - HEADER, &payload)) == QS_DONE)
-      return;
+    qs_payload payload;
+    const int32_t answer = qs_emit(&e->conn, QS_ALL, 1, packet + HEADER,
+                                   PACKET - HEADER, &payload);
+    if (answer == QS_DONE || answer == QS_ERR_NOMEM)
+      return; /* without memory it is tried again soon */
+    want("emit", answer);
     e->flight[e->flying++] = (in_flight){next, payload.token, now};
     send_packet(e, 'D', next++, packet, HEADER + payload.len);
   }
@@ -110,27 +119,29 @@ static void take_packet(end *e, uint8_t *packet, size_t len) {
   if (packet[0] == 'A') {
     for (size_t i = 0; i < e->flying; i++)
       if (e->flight[i].number == number) {
-        settle(e, i, 1);
+        report(e, i, 1);
         return;
       }
-  } else if (packet[0] == 'D') {
-    size_t place = 0;
-    qs_error error = {0, 0, {0}};
+  } else if (packet[0] == 'D' && len > HEADER) {
+    size_t next = 0; /* the offset of the first frame */
+    qs_error error;
     int32_t answer =
-        qs_receive(&e->conn, packet + HEADER, len - HEADER, &place, &error);
+        qs_receive(&e->conn, packet + HEADER, len - HEADER, &next, &error);
     if (answer == QS_ERR_NOMEM)
       return; /* as if it had not come: the peer sends it again */
-    if (answer < 0) {
+    if (answer == QS_ERR_PROTOCOL || answer == QS_ERR_MALFORMED) {
       fprintf(stderr, "the peer: %.*s\n", (int)error.reason_len,
               (const char *)error.reason);
       exit(1);
     }
+    if (want("receive", answer) == QS_OTHER_FRAME)
+      die("the peer sent a frame that this program does not have", answer);
     uint8_t ack[HEADER];
     send_packet(e, 'A', number, ack, HEADER);
   }
 }
 
-/* Writes the file until the stream is blocked; then an event tells. */
+/* Writes the file until the stream is blocked or stopped: an event follows. */
 static void write_file(end *e) {
   for (;;) {
     size_t written = 0;
@@ -140,13 +151,15 @@ static void write_file(end *e) {
       e->chunk_len = fread(e->chunk, 1, sizeof e->chunk, e->file);
     }
     if (e->chunk_len == 0) {
-      want("finish", qs_stream_finish(&e->conn, e->stream, &code));
+      const int32_t answer = qs_stream_finish(&e->conn, e->stream, &code);
+      if (answer != QS_ERR_STOPPED)
+        want("finish", answer);
       return;
     }
     int32_t answer =
         qs_stream_write(&e->conn, e->stream, e->chunk + e->chunk_at,
                         e->chunk_len - e->chunk_at, &written, &code);
-    if (answer == QS_ERR_BLOCKED)
+    if (answer == QS_ERR_BLOCKED || answer == QS_ERR_STOPPED)
       return;
     want("write", answer);
     e->chunk_at += written;
@@ -155,7 +168,6 @@ static void write_file(end *e) {
 
 static void read_file(end *e) {
   uint8_t data[16384];
-  memset(data, 0, sizeof data);
   for (;;) {
     size_t count = 0;
     uint64_t offset = 0, code = 0;
@@ -172,7 +184,7 @@ static void read_file(end *e) {
 }
 
 static void handle_events(end *e) {
-  qs_event event = {0, 0, 0, 0};
+  qs_event event;
   while (want("poll", qs_poll(&e->conn, &event)) == QS_OK) {
     if (event.kind == QS_EVENT_OPENED)
       while (qs_stream_accept(&e->conn, event.dir, &e->stream) == QS_OK)
@@ -183,15 +195,28 @@ static void handle_events(end *e) {
       write_file(e);
     else if (event.kind == QS_EVENT_FINISHED)
       e->done = 1;
+    else if (event.kind == QS_EVENT_STOPPED) {
+      /* The receiver wants no more, and learns how much there was. */
+      want("reset", qs_stream_reset(&e->conn, event.id, event.app_code));
+      e->done = e->stopped = 1;
+    }
   }
 }
 
 static void open_end(end *e, uint16_t port) {
   const uint64_t window = 1 << 20, each = 1 << 18;
-  const uint32_t side = e->sends ? QS_CLIENT : QS_SERVER;
-  qs_config config = {sizeof config, side, 4,       4, window,
-                      window,        each, QS_NONE, 0};
-  qs_peer_limits limits = {window, 4, 4, each, each, each, QS_NONE};
+  const qs_config config = {.size = sizeof config,
+                            .side = e->sends ? QS_CLIENT : QS_SERVER,
+                            .max_remote_uni = 1,
+                            .send_window = window,
+                            .receive_window = window,
+                            .stream_window = each,
+                            .datagram_receive = QS_NONE};
+  /* The peer runs the same program: its limits are known. */
+  const qs_peer_limits limits = {.initial_max_data = window,
+                                 .initial_max_streams_uni = 1,
+                                 .initial_max_stream_data_uni = each,
+                                 .max_datagram = QS_NONE};
   want("open", qs_conn_open(&e->conn, &config));
   want("limits", qs_set_peer_limits(&e->conn, &limits));
   struct sockaddr_in at;
@@ -206,7 +231,8 @@ static void open_end(end *e, uint16_t port) {
   if (connect(e->fd, (struct sockaddr *)&at, sizeof at) < 0)
     die("connect", 0);
   if (e->sends) {
-    want("stream", qs_stream_open(&e->conn, QS_UNI, &e->stream));
+    if (want("stream", qs_stream_open(&e->conn, QS_UNI, &e->stream)) != QS_OK)
+      die("the peer allows no stream", QS_DONE);
     write_file(e);
   }
 }
@@ -224,6 +250,8 @@ int main(int argc, char **argv) {
     die(argv[3], 0);
   e.loss = argc > 4 ? (unsigned)strtoul(argv[4], NULL, 10) : 0;
   e.seed = argc > 5 ? strtoull(argv[5], NULL, 10) : 1;
+  if (qs_version() >> 8 != QS_VERSION_NUM >> 8)
+    die("the library has another version than its header", QS_ERR_ARGUMENT);
   open_end(&e, (uint16_t)strtoul(argv[2], NULL, 10));
   e.idle_since = now_ms();
   /* The receiver stays a second after the last packet, to acknowledge again. */
@@ -235,7 +263,7 @@ int main(int argc, char **argv) {
       if (len > 0)
         e.idle_since = now_ms(), take_packet(&e, packet, (size_t)len);
     }
-    settle_old(&e, now_ms());
+    report_old(&e, now_ms());
     handle_events(&e);
     send_due(&e, now_ms());
     if (now_ms() - e.idle_since > 10000)
@@ -244,5 +272,5 @@ int main(int argc, char **argv) {
   printf("%s: %lu packets, %lu dropped, %lu taken to be lost\n", argv[1],
          e.packets, e.dropped, e.lost);
   qs_conn_free(&e.conn);
-  return fclose(e.file) ? 1 : 0;
+  return fclose(e.file) || e.stopped ? 1 : 0;
 }

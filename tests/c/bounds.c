@@ -44,15 +44,17 @@ static void limits(qs_conn *a) {
   for (size_t i = 0; i < 6; i++) {
     qs_peer_limits limits = good;
     uint64_t *each = &limits.initial_max_data + i;
-    *each = END;
+    /* the second and the third are stream limits (section 18.2) */
+    const uint64_t most = i == 1 || i == 2 ? UINT64_C(1) << 60 : END - 1;
+    *each = most + 1;
     SAME(qs_set_peer_limits(a, &limits), QS_ERR_ARGUMENT);
-    *each = END - 1;
+    *each = most;
     SAME(qs_set_peer_limits(a, &limits), QS_OK);
   }
 }
 
 static void streams(qs_conn *a) {
-  uint64_t out = 0, code = 0;
+  uint64_t out = 0, offset = 0, code = 0;
   size_t count = 0;
   int32_t priority = 0;
   uint8_t data[4] = {0};
@@ -79,8 +81,9 @@ static void streams(qs_conn *a) {
   SAME(qs_stream_set_priority(a, out, INT32_MIN), QS_OK);
   SAME(qs_stream_priority(a, out, &priority), QS_OK);
   SAME(priority, INT32_MIN);
-  SAME(qs_stream_read(a, out, NULL, 0, &count, &code, &code), QS_ERR_TOO_SMALL);
-  SAME(qs_stream_read_many(a, out, NULL, 0, &count, &code, &code),
+  SAME(qs_stream_read(a, out, NULL, 0, &count, &offset, &code),
+       QS_ERR_TOO_SMALL);
+  SAME(qs_stream_read_many(a, out, NULL, 0, &count, &offset, &code),
        QS_ERR_TOO_SMALL);
   SAME(qs_stream_write(a, out, NULL, 0, &count, &code), QS_OK);
   SAME(count, 0);
@@ -142,6 +145,7 @@ static void rest(qs_conn *a) {
   SAME(qs_emit_buffer(a, QS_ALL, 0, 0, &buffer, &payload), QS_DONE);
   SAME(qs_receive_buffer(a, &buffer, 2, &next, &error), QS_ERR_ARGUMENT);
   SAME(qs_receive_buffer(a, &buffer, SIZE_MAX, &next, &error), QS_ERR_ARGUMENT);
+  SAME(qs_receive_buffer(a, &buffer, 1, &next, &error), QS_ERR_ARGUMENT);
   SAME(next == SIZE_MAX, 1);
   qs_buffer_free(&buffer);
   SAME(qs_stream_read_lent(a, END, &slice, 1, &count, &offset, &code),
@@ -151,7 +155,15 @@ static void rest(qs_conn *a) {
   SAME(slice.memory == data && count + offset + code == 21, 1);
   SAME(qs_acked(a, 0), QS_ERR_TOKEN);
   SAME(qs_lost(a, UINT64_MAX), QS_ERR_TOKEN);
+  SAME(qs_receive(a, (const uint8_t *)"\x10\x05", 2, &next, &error),
+       QS_ERR_ARGUMENT); /* an offset behind the payload */
+  SAME(next == SIZE_MAX, 1);
+  next = 3;
+  SAME(qs_receive(a, (const uint8_t *)"\x10\x05", 2, &next, &error),
+       QS_ERR_ARGUMENT);
+  next = 2;
   SAME(qs_receive(a, (const uint8_t *)"\x10\x05", 2, &next, &error), QS_OK);
+  SAME(next, 2);
   SAME(qs_datagram_set_max_size(a, UINT64_MAX - 1), QS_OK);
 }
 

@@ -1,4 +1,4 @@
-/* The cases g, h and i of docs/PERFORMANCE.md through the C interface: the same
+/* The cases g, h and i of docs/performance.md through the C interface: the same
  * work as that of the crate stream_cases, done by calls of quic_streams.h
  * alone, with the same check numbers.
  *

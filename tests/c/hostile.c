@@ -44,7 +44,7 @@ static void check_answer(int32_t answer, const qs_error *error, size_t next) {
     SAME(error->reason_len <= sizeof error->reason, 1);
     return;
   default:
-    fprintf(stderr, "answer %d at frame %zu\n", (int)answer, next);
+    fprintf(stderr, "answer %d at byte %zu\n", (int)answer, next);
     exit(1);
   }
 }
@@ -88,6 +88,12 @@ int main(int argc, char **argv) {
       for (uint64_t frames = draw(6); frames > 0; frames--)
         len += frame(payload + len);
     int32_t answer = qs_receive(&conn, payload, len, &next, &error);
+    while (answer == QS_OTHER_FRAME) { /* taken for a frame of one byte */
+      SAME(next < len, 1);
+      next++;
+      answer = qs_receive(&conn, payload, len, &next, &error);
+    }
+    SAME(next <= len && (answer != QS_OK || next == len), 1);
     check_answer(answer, &error, next);
     taken += answer == QS_OK;
     if (draw(8) == 0)

@@ -1,4 +1,4 @@
-/* The check numbers of the work that docs/PERFORMANCE.md measures, against
+/* The check numbers of the work that docs/performance.md measures, against
  * numbers that were reckoned by hand. It is linked with the static library of
  * the crate streambench, which has every case; or, with -DENDS_ALONE, with
  * cases.c, which does g, h and i by calls of quic_streams.h.

@@ -303,24 +303,25 @@ static void a_peer_that_breaks_the_protocol_is_told_so(void) {
   /* eleven bytes, where ten are permitted */
   const uint8_t many[] = "\x10\x05\x08\x02hello world";
   SAME(qs_receive(&b, many, sizeof many - 1, &next, &error), QS_ERR_PROTOCOL);
-  SAME(next, 1);       /* MAX_DATA before it was taken */
+  SAME(next, 2);       /* MAX_DATA before it was processed */
   SAME(error.code, 3); /* FLOW_CONTROL_ERROR */
   /* a second stream, where one is permitted */
   SAME(qs_on_stream(&b, 6, 0, (const uint8_t *)"x", 1, 0, 1, &error),
        QS_ERR_PROTOCOL);
   SAME(error.code, 4); /* STREAM_LIMIT_ERROR */
   SAME(error.reason_len <= 80, 1);
-  /* the first byte of no frame that is read here */
+  /* a frame that ends before its last number does */
   next = 0;
-  SAME(qs_receive(&b, (const uint8_t *)"\x1f", 1, &next, &error),
+  SAME(qs_receive(&b, (const uint8_t *)"\x10\x40", 2, &next, &error),
        QS_ERR_MALFORMED);
   SAME(error.code, 7); /* FRAME_ENCODING_ERROR */
+  SAME(next, 0);
   SAME(qs_receive(&b, NULL, 0, &next, &error), QS_OK);
   qs_conn_free(&b);
 }
 
-/* The connection is to be closed with STREAM_STATE_ERROR, and frame `place` is
- * the first that was not taken. */
+/* The connection is to be closed with STREAM_STATE_ERROR, and the frame at the
+ * offset `place` is the first that was not processed. */
 static void is_refused(qs_conn *conn, const char *payload, size_t len,
                        size_t place) {
   size_t next = 0;
@@ -348,7 +349,7 @@ static void a_frame_for_another_direction_is_refused(void) {
   is_refused(&a, "\x05\x06\x07", 3, 0); /* 6 is not open yet */
   is_refused(&a, "\x05\x00\x07", 3, 0); /* nor is 0 */
   is_refused(&a, "\x15\x02\x09", 3, 0); /* only this end sends on 2 */
-  is_refused(&a, "\x15\x03\x09\x15\x06\x09", 6, 1); /* or on 6 */
+  is_refused(&a, "\x15\x03\x09\x15\x06\x09", 6, 3); /* or on 6 */
   SAME(qs_on_stop_sending(&a, 3, 7, &error), QS_ERR_PROTOCOL);
   SAME(error.code, 5);
   error.code = 0;
@@ -378,7 +379,7 @@ static void a_frame_for_the_right_direction_is_taken(void) {
   SAME(id, 6);
   const uint8_t fine[] = "\x05\x06\x07\x15\x03\x09\x15\x00\x09\x15\x01\x09";
   SAME(qs_receive(&a, fine, sizeof fine - 1, &next, &error), QS_OK);
-  SAME(next, 4);
+  SAME(next, sizeof fine - 1);
   SAME(qs_stream_stopped(&a, 6, &code), QS_OK);
   SAME(code, 7);
   SAME(qs_on_stop_sending(&a, 2, 8, &error), QS_OK);

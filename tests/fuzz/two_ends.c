@@ -87,19 +87,25 @@ static int32_t emit(end *e, uint32_t parts, uint32_t fair, size_t cap,
   return answer;
 }
 
-/* Takes a payload, from where it is or from a buffer. */
+/* Takes a payload, from where it is or from a buffer. A frame of the host's is
+ * taken for one of a byte. */
 static void receive(end *e, const uint8_t *payload, size_t len, int buffered) {
   size_t next = 0;
   qs_error error = {0, 0, {0}};
   if (!buffered) {
-    (void)qs_receive(&e->conn, payload, len, &next, &error);
+    while (qs_receive(&e->conn, payload, len, &next, &error) == QS_OTHER_FRAME)
+      must(next++ < len);
+    must(next <= len);
     return;
   }
   must(qs_buffer_reserve(&e->buffer, len) == QS_OK && e->buffer.len >= len);
   if (len > 0)
     memcpy(e->buffer.data, payload, len);
-  const int32_t answer =
-      qs_receive_buffer(&e->conn, &e->buffer, len, &next, &error);
+  int32_t answer;
+  while ((answer = qs_receive_buffer(&e->conn, &e->buffer, len, &next,
+                                     &error)) == QS_OTHER_FRAME)
+    must(next++ < len && e->buffer.len >= len);
+  must(next <= len);
   must(answer != QS_ERR_CLOSED && answer != QS_ERR_ARGUMENT);
 }
 
@@ -116,6 +122,7 @@ static void read_lent(end *e, uint64_t id, size_t max) {
     for (size_t byte = 0; byte < slices[at].len; byte++)
       sum += qs_slice_data(&slices[at])[byte];
   }
+  (void)sum;
 }
 
 static void call(end *e, end *peer, input *in) {

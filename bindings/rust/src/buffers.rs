@@ -1,11 +1,9 @@
-use crate::errors::*;
-use crate::frames::transport_error;
-use crate::state::StreamsState;
-use crate::sys;
-use crate::values::*;
+use crate::errors::{unexpected, OutOfMemory, ReceiveError};
+use crate::state::{emitted, received, StreamsState};
+use crate::values::{Emit, Payload, Received};
+use quic_streams_sys as sys;
 use std::fmt;
 use std::ops::{Deref, DerefMut};
-use std::ptr::null_mut;
 use std::slice::{from_raw_parts, from_raw_parts_mut};
 
 /// Memory of the library for one payload: [`StreamsState::emit_buffer`] writes into it, and
@@ -13,7 +11,7 @@ use std::slice::{from_raw_parts, from_raw_parts_mut};
 /// written, for example to encrypt or decrypt a packet in place.
 ///
 /// ```
-/// # use quic_streams::{Buffer, Config, Dir, Emit, Limits, Side, StreamsState};
+/// # use quic_streams::{Buffer, Config, Dir, Emit, Limits, Received, Side, StreamsState};
 /// # fn main() -> Result<(), Box<dyn std::error::Error>> {
 /// # let config = Config::default();
 /// # let mut client = StreamsState::new(Side::Client, &config)?;
@@ -22,61 +20,90 @@ use std::slice::{from_raw_parts, from_raw_parts_mut};
 /// # let id = client.open(Dir::Uni)?.unwrap();
 /// # client.send_stream(id).write(b"hello")?;
 /// let mut buffer = Buffer::new();
-/// let payload = client.emit_buffer(&mut buffer, 1200, Emit::default())?.expect("data are due");
+/// let payload = client.emit_buffer(&mut buffer, 1200, Emit::ALL)?.expect("data is pending");
 /// assert_eq!(&buffer[..], b"\x0a\x02\x05hello");
-/// server.receive_buffer(&mut buffer, payload.len)?;
+/// assert_eq!(server.receive_buffer(&mut buffer, payload.len)?, Received::All);
 ///
 /// buffer.reserve(1500)?; // for the next packet
 /// buffer[0] = 0x40;
 /// # Ok(())
 /// # }
 /// ```
+///
+/// Its bytes cannot be used while it changes:
+///
+/// ```compile_fail,E0502
+/// # use quic_streams::Buffer;
+/// fn kept(buffer: &mut Buffer) {
+///     let bytes = &buffer[..];
+///     buffer.reserve(1500).unwrap();
+///     assert!(bytes.is_empty());
+/// }
+/// ```
+///
+/// Nor after it is gone:
+///
+/// ```compile_fail,E0515
+/// # use quic_streams::Buffer;
+/// fn kept(buffer: Buffer) -> &'static [u8] {
+///     &buffer
+/// }
+/// ```
 pub struct Buffer {
-    raw: sys::Buffer,
+    raw: sys::qs_buffer,
 }
 
-// The memory behind it belongs to it alone, and a call that changes it needs `&mut`.
+// SAFETY: the memory behind it is its own, belongs to no session and to no thread, and the buffer may move (quic_streams.h).
 unsafe impl Send for Buffer {}
+// SAFETY: by `&Buffer` bytes are read alone; each call on it takes `&mut`.
 unsafe impl Sync for Buffer {}
 
 impl Buffer {
-    /// One without bytes. Takes no memory.
-    pub fn new() -> Self {
-        Buffer {
-            raw: sys::Buffer {
-                live: 0,
-                at: null_mut(),
-                data: null_mut(),
-                len: 0,
-            },
+    /// One without bytes. Allocates nothing.
+    #[must_use]
+    pub const fn new() -> Self {
+        Self {
+            raw: sys::qs_buffer::ZERO,
         }
     }
 
-    /// Makes it at least `size` bytes long: zeros are put behind those that it has. Out of memory, these stay.
+    /// Makes it at least `size` bytes long, with zeros after its bytes.
+    ///
+    /// # Errors
+    ///
+    /// [`OutOfMemory`], and its bytes stay.
     pub fn reserve(&mut self, size: usize) -> Result<(), OutOfMemory> {
+        // SAFETY: the buffer is borrowed for this call alone.
         match unsafe { sys::qs_buffer_reserve(&mut self.raw, size) } {
-            sys::OK => Ok(()),
-            _ => Err(OutOfMemory),
+            sys::QS_OK => Ok(()),
+            sys::QS_ERR_NOMEM => Err(OutOfMemory),
+            result => unexpected(result),
         }
     }
 
-    // The calls on a session refuse one that was never opened.
-    fn open(&mut self) -> Result<&mut sys::Buffer, OutOfMemory> {
-        if self.raw.live == 0 {
+    /// The buffer, opened: the calls on a session reject a closed one.
+    fn open(&mut self) -> Result<*mut sys::qs_buffer, OutOfMemory> {
+        if !self.is_open() {
             self.reserve(0)?;
         }
         Ok(&mut self.raw)
+    }
+
+    /// Whether the library shows its bytes. Those of a closed one are not looked at.
+    fn is_open(&self) -> bool {
+        self.raw.live == 1
     }
 }
 
 impl Default for Buffer {
     fn default() -> Self {
-        Buffer::new()
+        Self::new()
     }
 }
 
 impl Drop for Buffer {
     fn drop(&mut self) {
+        // SAFETY: the buffer is borrowed for this call alone, and nothing borrows its bytes any more.
         unsafe { sys::qs_buffer_free(&mut self.raw) }
     }
 }
@@ -87,66 +114,98 @@ impl fmt::Debug for Buffer {
     }
 }
 
-// Each call on a buffer sets where its bytes are, and how many.
 impl Deref for Buffer {
     type Target = [u8];
 
     fn deref(&self) -> &[u8] {
-        if self.raw.len == 0 {
+        if !self.is_open() || self.raw.len == 0 {
             return &[];
         }
+        // SAFETY: each call on an open buffer sets `data` and `len` to its bytes, which are initialised and its own.
         unsafe { from_raw_parts(self.raw.data, self.raw.len) }
     }
 }
 
 impl DerefMut for Buffer {
     fn deref_mut(&mut self) -> &mut [u8] {
-        if self.raw.len == 0 {
+        if !self.is_open() || self.raw.len == 0 {
             return &mut [];
         }
+        // SAFETY: each call on an open buffer sets `data` and `len` to its bytes, which are initialised and its own, and it
+        // is borrowed mutably.
         unsafe { from_raw_parts_mut(self.raw.data, self.raw.len) }
     }
 }
 
+/// Payloads in buffers.
 impl StreamsState {
-    /// Writes what is due into a buffer, at most `max_size` bytes. The buffer has these alone then: what it had before is gone.
-    /// `None` where nothing that is due fits; then the buffer stays as it was.
+    /// Writes pending frames into a buffer, at most `max_size` bytes. The buffer has these alone then. `None`: no pending
+    /// frame fits, and the buffer keeps its bytes.
+    ///
+    /// # Errors
+    ///
+    /// [`OutOfMemory`], and the buffer keeps its bytes.
     pub fn emit_buffer(
         &mut self,
         buffer: &mut Buffer,
         max_size: usize,
         what: Emit,
     ) -> Result<Option<Payload>, OutOfMemory> {
-        let mut payload = sys::Payload::default();
-        if what.parts() == 0 {
-            return Ok(None);
-        }
-        let (parts, fair) = (what.parts(), u32::from(what.fair));
-        let raw = buffer.open()?;
-        let conn = &mut self.conn;
-        match unsafe { sys::qs_emit_buffer(conn, parts, fair, max_size, raw, &mut payload) } {
-            sys::OK => Ok(Some(payload_of(&payload))),
-            sys::DONE => Ok(None),
-            _ => Err(OutOfMemory),
-        }
+        let parts = match what.raw() {
+            Some(parts) => parts,
+            None => return Ok(None),
+        };
+        let mut payload = sys::qs_payload::ZERO;
+        let (conn, fair, raw) = (self.handle(), u32::from(what.fair), buffer.open()?);
+        // SAFETY: the handle is this session's, the buffer is borrowed for this call alone, and `payload` is a local of its
+        // own.
+        let result = unsafe { sys::qs_emit_buffer(conn, parts, fair, max_size, raw, &mut payload) };
+        emitted(result, &payload)
     }
 
-    /// Takes the payload of the peer that is the first `len` bytes of a buffer. The buffer has other bytes then, and may be
-    /// shorter. Out of memory, the payload may be gone: treat the packet as one that did not come.
+    /// Processes the payload of the peer that is the first `len` bytes of a buffer. If all frames are the library's, the
+    /// buffer has other bytes afterwards, and may be shorter; else it keeps its bytes.
+    ///
+    /// # Errors
+    ///
+    /// As [`StreamsState::receive`], but with [`ReceiveError::OutOfMemory`] the payload may be gone: treat the packet as not
+    /// received.
     ///
     /// # Panics
     ///
-    /// Where the buffer has fewer bytes.
-    pub fn receive_buffer(&mut self, buffer: &mut Buffer, len: usize) -> Result<(), ReceiveError> {
+    /// If the buffer has fewer than `len` bytes.
+    pub fn receive_buffer(
+        &mut self,
+        buffer: &mut Buffer,
+        len: usize,
+    ) -> Result<Received, ReceiveError> {
+        self.receive_buffer_from(buffer, len, 0)
+    }
+
+    /// Processes a payload in a buffer from byte `at` on, behind a frame of the host. The buffer keeps its bytes, except if
+    /// `at` is 0.
+    ///
+    /// # Errors
+    ///
+    /// As [`StreamsState::receive_buffer`].
+    ///
+    /// # Panics
+    ///
+    /// If the buffer has fewer than `len` bytes, or `at` is above `len`.
+    pub fn receive_buffer_from(
+        &mut self,
+        buffer: &mut Buffer,
+        len: usize,
+        at: usize,
+    ) -> Result<Received, ReceiveError> {
         assert!(len <= buffer.len(), "the payload is longer than its buffer");
-        let (mut next, mut error) = (0, sys::Error::none());
-        let Ok(raw) = buffer.open() else {
-            return Err(ReceiveError::OutOfMemory(0));
-        };
-        match unsafe { sys::qs_receive_buffer(&mut self.conn, raw, len, &mut next, &mut error) } {
-            sys::OK => Ok(()),
-            sys::PROTOCOL | sys::MALFORMED => Err(ReceiveError::Transport(transport_error(&error))),
-            _ => Err(ReceiveError::OutOfMemory(next)),
-        }
+        assert!(at <= len, "the payload ends before this byte");
+        let (mut next, mut error) = (at, sys::qs_error::ZERO);
+        let raw = buffer.open().map_err(|_| ReceiveError::OutOfMemory(at))?;
+        // SAFETY: the handle is this session's, the buffer is borrowed for this call alone, and `next` and `error` are
+        // locals of their own.
+        let result =
+            unsafe { sys::qs_receive_buffer(self.handle(), raw, len, &mut next, &mut error) };
+        received(result, next, &error)
     }
 }

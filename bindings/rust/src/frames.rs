@@ -1,53 +1,51 @@
 //! Single frames of the peer, for a host that decodes frames itself.
 
-use crate::errors::{ReceiveError, TransportError};
+use crate::errors::{unexpected, ReceiveError};
+use crate::id::{Dir, StreamId};
 use crate::state::StreamsState;
-use crate::sys;
-use crate::values::{Dir, StreamId};
+use crate::transport_error::{TransportError, TransportErrorCode};
+use crate::varint::VarInt;
+use quic_streams_sys as sys;
 
-// FRAME_ENCODING_ERROR (RFC 9000 section 20.1).
-const FRAME_ENCODING_ERROR: u64 = 7;
-
-pub(crate) fn transport_error(error: &sys::Error) -> TransportError {
-    let reason = &error.reason[..(error.reason_len as usize).min(error.reason.len())];
-    TransportError {
-        code: error.code,
-        reason: String::from_utf8_lossy(reason).into_owned(),
-    }
-}
-
-// The result of a call that takes one frame.
+/// The result of a call that processes one frame.
 #[inline]
-fn taken(answer: i32, error: &sys::Error) -> Result<(), ReceiveError> {
-    match answer {
-        sys::OK => Ok(()),
-        answer => Err(refused(answer, error)),
+fn processed(result: i32, error: &sys::qs_error) -> Result<(), ReceiveError> {
+    match result {
+        sys::QS_OK => Ok(()),
+        result => Err(failed(result, error)),
     }
 }
 
-// Why a frame was not taken.
+/// Why a frame was not processed.
 #[cold]
-fn refused(answer: i32, error: &sys::Error) -> ReceiveError {
-    match answer {
-        sys::PROTOCOL | sys::MALFORMED => ReceiveError::Transport(transport_error(error)),
-        sys::ARGUMENT => ReceiveError::Transport(TransportError {
-            code: FRAME_ENCODING_ERROR,
-            reason: "a number is above its bound".to_owned(),
-        }),
-        _ => ReceiveError::OutOfMemory(0),
+fn failed(result: i32, error: &sys::qs_error) -> ReceiveError {
+    match result {
+        sys::QS_ERR_PROTOCOL => ReceiveError::Transport(TransportError::of(error)),
+        sys::QS_ERR_ARGUMENT => ReceiveError::Transport(TransportError::new(
+            TransportErrorCode::FRAME_ENCODING_ERROR,
+            "a number is 2^62 or more",
+        )),
+        sys::QS_ERR_NOMEM => ReceiveError::OutOfMemory(0),
+        result => unexpected(result),
     }
 }
 
 /// Frames that the host decoded: one call for each frame, with the fields of RFC 9000 section 19.
 ///
-/// A number above its bound, which no decoder gives, is a [`ReceiveError::Transport`] with FRAME_ENCODING_ERROR.
-/// [`ReceiveError::OutOfMemory`] names frame 0: the frame was not taken, and may be handed in again.
+/// A number of 2^62 or more, which no decoder returns, is a [`ReceiveError::Transport`] with FRAME_ENCODING_ERROR.
+/// [`ReceiveError::OutOfMemory`] names byte 0: the frame was not processed, and may be passed in again.
 ///
-/// DATA_BLOCKED and STREAM_DATA_BLOCKED change nothing and have no call. STREAM_DATA_BLOCKED for a stream on which only this
-/// end sends is for the host to refuse, with STREAM_STATE_ERROR (section 19.13). [`StreamsState::receive`] refuses it itself.
+/// DATA_BLOCKED and STREAM_DATA_BLOCKED change nothing and have no call. The host rejects STREAM_DATA_BLOCKED for a stream on
+/// which only this endpoint sends, with STREAM_STATE_ERROR (section 19.13). [`StreamsState::receive`] rejects it itself.
 impl StreamsState {
-    /// STREAM (section 19.8). `payload_len` is the length of the memory in which the data came. It is counted so that many
-    /// small frames cannot hold much memory; the length of `data` counts, if `payload_len` is less.
+    /// Processes a STREAM frame (section 19.8).
+    ///
+    /// `payload_len` is the length of the memory in which the data was received. It is counted so that many small frames
+    /// cannot pin much memory; the length of `data` counts if `payload_len` is less.
+    ///
+    /// # Errors
+    ///
+    /// As all calls for single frames.
     #[inline]
     pub fn on_stream(
         &mut self,
@@ -57,74 +55,111 @@ impl StreamsState {
         fin: bool,
         payload_len: usize,
     ) -> Result<(), ReceiveError> {
-        let mut error = sys::Error::none();
-        let answer = unsafe {
+        let mut error = sys::qs_error::ZERO;
+        let (conn, at, len) = (self.handle(), data.as_ptr(), data.len());
+        let fin = u32::from(fin);
+        // SAFETY: the handle is this session's, `at` points to `len` bytes, and `error` is a local of its own.
+        let result = unsafe {
             sys::qs_on_stream(
-                &mut self.conn,
-                id.0,
+                conn,
+                id.into(),
                 offset,
-                data.as_ptr(),
-                data.len(),
-                u32::from(fin),
+                at,
+                len,
+                fin,
                 payload_len,
                 &mut error,
             )
         };
-        taken(answer, &error)
+        processed(result, &error)
     }
 
-    /// RESET_STREAM (section 19.4).
+    /// Processes a RESET_STREAM frame (section 19.4).
+    ///
+    /// # Errors
+    ///
+    /// As all calls for single frames.
     pub fn on_reset_stream(
         &mut self,
         id: StreamId,
-        error_code: u64,
-        final_size: u64,
+        error_code: VarInt,
+        final_size: VarInt,
     ) -> Result<(), ReceiveError> {
-        let mut error = sys::Error::none();
-        let answer = unsafe {
-            sys::qs_on_reset_stream(&mut self.conn, id.0, error_code, final_size, &mut error)
-        };
-        taken(answer, &error)
+        let mut error = sys::qs_error::ZERO;
+        let (conn, code, size) = (self.handle(), error_code.into(), final_size.into());
+        // SAFETY: the handle is this session's, and `error` is a local of its own.
+        let result = unsafe { sys::qs_on_reset_stream(conn, id.into(), code, size, &mut error) };
+        processed(result, &error)
     }
 
-    /// STOP_SENDING (section 19.5). For a stream on which only the peer sends, or for one of this end that is not open, it is a
-    /// STREAM_STATE_ERROR.
-    pub fn on_stop_sending(&mut self, id: StreamId, error_code: u64) -> Result<(), ReceiveError> {
-        let mut error = sys::Error::none();
-        let answer =
-            unsafe { sys::qs_on_stop_sending(&mut self.conn, id.0, error_code, &mut error) };
-        taken(answer, &error)
+    /// Processes a STOP_SENDING frame (section 19.5). For a stream on which only the peer sends, or for one of this endpoint
+    /// that is not open, it is a STREAM_STATE_ERROR.
+    ///
+    /// # Errors
+    ///
+    /// As all calls for single frames.
+    pub fn on_stop_sending(
+        &mut self,
+        id: StreamId,
+        error_code: VarInt,
+    ) -> Result<(), ReceiveError> {
+        let mut error = sys::qs_error::ZERO;
+        let (conn, code) = (self.handle(), error_code.into());
+        // SAFETY: the handle is this session's, and `error` is a local of its own.
+        let result = unsafe { sys::qs_on_stop_sending(conn, id.into(), code, &mut error) };
+        processed(result, &error)
     }
 
-    /// MAX_DATA (section 19.9).
+    /// Processes a MAX_DATA frame (section 19.9).
+    ///
+    /// # Errors
+    ///
+    /// As all calls for single frames.
     #[inline]
-    pub fn on_max_data(&mut self, limit: u64) -> Result<(), ReceiveError> {
-        let mut error = sys::Error::none();
-        let answer = unsafe { sys::qs_on_max_data(&mut self.conn, limit, &mut error) };
-        taken(answer, &error)
+    pub fn on_max_data(&mut self, limit: VarInt) -> Result<(), ReceiveError> {
+        let mut error = sys::qs_error::ZERO;
+        // SAFETY: the handle is this session's, and `error` is a local of its own.
+        let result = unsafe { sys::qs_on_max_data(self.handle(), limit.into(), &mut error) };
+        processed(result, &error)
     }
 
-    /// MAX_STREAM_DATA (section 19.10).
+    /// Processes a MAX_STREAM_DATA frame (section 19.10).
+    ///
+    /// # Errors
+    ///
+    /// As all calls for single frames.
     #[inline]
     pub fn on_max_stream_data(&mut self, id: StreamId, limit: u64) -> Result<(), ReceiveError> {
-        let mut error = sys::Error::none();
-        let answer = unsafe { sys::qs_on_max_stream_data(&mut self.conn, id.0, limit, &mut error) };
-        taken(answer, &error)
+        let mut error = sys::qs_error::ZERO;
+        let conn = self.handle();
+        // SAFETY: the handle is this session's, and `error` is a local of its own.
+        let result = unsafe { sys::qs_on_max_stream_data(conn, id.into(), limit, &mut error) };
+        processed(result, &error)
     }
 
-    /// MAX_STREAMS (section 19.11).
+    /// Processes a MAX_STREAMS frame (section 19.11).
+    ///
+    /// # Errors
+    ///
+    /// As all calls for single frames.
     pub fn on_max_streams(&mut self, dir: Dir, count: u64) -> Result<(), ReceiveError> {
-        let mut error = sys::Error::none();
-        let answer =
-            unsafe { sys::qs_on_max_streams(&mut self.conn, dir.number(), count, &mut error) };
-        taken(answer, &error)
+        let mut error = sys::qs_error::ZERO;
+        let conn = self.handle();
+        // SAFETY: the handle is this session's, and `error` is a local of its own.
+        let result = unsafe { sys::qs_on_max_streams(conn, dir.number(), count, &mut error) };
+        processed(result, &error)
     }
 
-    /// DATAGRAM (RFC 9221 section 4).
+    /// Processes a DATAGRAM frame (RFC 9221 section 4).
+    ///
+    /// # Errors
+    ///
+    /// As all calls for single frames.
     pub fn on_datagram(&mut self, data: &[u8]) -> Result<(), ReceiveError> {
-        let mut error = sys::Error::none();
-        let (at, len) = (data.as_ptr(), data.len());
-        let answer = unsafe { sys::qs_on_datagram(&mut self.conn, at, len, &mut error) };
-        taken(answer, &error)
+        let mut error = sys::qs_error::ZERO;
+        let (conn, at, len) = (self.handle(), data.as_ptr(), data.len());
+        // SAFETY: the handle is this session's, `at` points to `len` bytes, and `error` is a local of its own.
+        let result = unsafe { sys::qs_on_datagram(conn, at, len, &mut error) };
+        processed(result, &error)
     }
 }

@@ -1,118 +1,212 @@
-use crate::errors::*;
-use crate::frames::transport_error;
-use crate::streams::{RecvStream, SendStream};
-use crate::sys;
-use crate::values::*;
+use crate::config::{Config, Limits};
+use crate::errors::{unexpected, ConfigError, OutOfMemory, ReceiveError, SettleError};
+use crate::id::{Dir, Side, StreamId};
+use crate::recv::RecvStream;
+use crate::send::SendStream;
+use crate::transport_error::TransportError;
+use crate::values::{Due, Emit, Event, Info, Lent, Payload, Received, Token};
+use crate::varint::VarInt;
+use quic_streams_sys as sys;
+use std::cell::UnsafeCell;
 use std::fmt;
-use std::ptr::{null, null_mut};
+use std::ptr::null;
 use std::slice::from_raw_parts;
 
-/// One end of a connection: its streams, its datagrams, and its payloads in flight.
+/// One endpoint of a connection: its streams, its datagrams, and its payloads in flight.
+///
+/// It is `Send`, but not `Sync`: questions such as [`StreamsState::due`] take `&self`, and no two calls may run at once.
+///
+/// ```compile_fail,E0277
+/// fn is_sync<T: Sync>() {}
+/// is_sync::<quic_streams::StreamsState>();
+/// ```
+///
+/// ```
+/// fn is_send<T: Send>() {}
+/// is_send::<quic_streams::StreamsState>();
+/// ```
 pub struct StreamsState {
-    pub(crate) conn: sys::Conn,
+    // The library takes a mutable handle also for questions, which are asked through `&self`.
+    conn: UnsafeCell<sys::qs_conn>,
 }
 
-// The session behind the handle shares no state with another session, and has none that belongs to a thread. A call needs
-// `&mut`, so no two calls run at once.
+// SAFETY: the session behind the handle has memory of its own alone, and nothing in it belongs to a thread. The handle may
+// move (quic_streams.h). `UnsafeCell` keeps the type from being `Sync`.
 unsafe impl Send for StreamsState {}
 
 impl Drop for StreamsState {
     fn drop(&mut self) {
-        unsafe { sys::qs_conn_free(&mut self.conn) }
+        // SAFETY: the handle is this session's, and nothing borrows from it any more.
+        unsafe { sys::qs_conn_free(self.handle()) }
     }
 }
 
 impl fmt::Debug for StreamsState {
     fn fmt(&self, f: &mut fmt::Formatter<'_>) -> fmt::Result {
-        f.debug_struct("StreamsState").finish_non_exhaustive()
+        f.debug_struct("StreamsState")
+            .field("info", &self.info())
+            .finish_non_exhaustive()
     }
 }
 
-pub(crate) fn number(value: Option<u64>) -> u64 {
-    value.unwrap_or(sys::NONE)
-}
-
-// The result of a call whose only error is out of memory.
-fn memory(answer: i32) -> Result<(), OutOfMemory> {
-    match answer {
-        sys::OK => Ok(()),
-        _ => Err(OutOfMemory),
+/// The result of a call that returns nothing else.
+fn must_be_done(result: i32) {
+    if result != sys::QS_OK {
+        unexpected(result);
     }
 }
 
-impl StreamsState {
-    /// Makes an end with no open stream and nothing to send. Nothing may be sent until the peer's limits are set by
-    /// [`StreamsState::set_params`].
-    pub fn new(side: Side, config: &Config) -> Result<Self, ConfigError> {
-        let raw = sys::Config {
-            size: std::mem::size_of::<sys::Config>() as u32,
-            side: match side {
-                Side::Client => 0,
-                Side::Server => 1,
-            },
-            max_remote_uni: config.max_remote_uni,
-            max_remote_bidi: config.max_remote_bi,
-            send_window: config.send_window,
-            receive_window: config.receive_window,
-            stream_window: config.stream_window,
-            datagram_receive: number(config.datagram_receive),
-            datagram_send: config.datagram_send,
-        };
-        let mut made = StreamsState {
-            conn: sys::Conn {
-                live: 0,
-                at: null_mut(),
-            },
-        };
-        match unsafe { sys::qs_conn_open(&mut made.conn, &raw) } {
-            sys::OK => Ok(made),
-            sys::ARGUMENT => Err(ConfigError::OutOfRange),
-            _ => Err(ConfigError::OutOfMemory),
+/// The result of a call whose only error is out of memory.
+fn memory(result: i32) -> Result<(), OutOfMemory> {
+    match result {
+        sys::QS_OK => Ok(()),
+        sys::QS_ERR_NOMEM => Err(OutOfMemory),
+        result => unexpected(result),
+    }
+}
+
+/// The result of a call that takes stream limits.
+fn configured(result: i32) -> Result<(), ConfigError> {
+    match result {
+        sys::QS_OK => Ok(()),
+        sys::QS_ERR_ARGUMENT => Err(ConfigError::OutOfRange),
+        sys::QS_ERR_NOMEM => Err(ConfigError::OutOfMemory),
+        result => unexpected(result),
+    }
+}
+
+/// The result of a report.
+#[inline]
+fn reported(result: i32) -> Result<(), SettleError> {
+    match result {
+        sys::QS_OK => Ok(()),
+        sys::QS_ERR_TOKEN => Err(SettleError::UnknownToken),
+        sys::QS_ERR_NOMEM => Err(SettleError::OutOfMemory),
+        result => unexpected(result),
+    }
+}
+
+/// The result of a call that processes a payload.
+pub(crate) fn received(
+    result: i32,
+    next: usize,
+    error: &sys::qs_error,
+) -> Result<Received, ReceiveError> {
+    match result {
+        sys::QS_OK => Ok(Received::All),
+        sys::QS_OTHER_FRAME => Ok(Received::OtherFrame { at: next }),
+        sys::QS_ERR_PROTOCOL | sys::QS_ERR_MALFORMED => {
+            Err(ReceiveError::Transport(TransportError::of(error)))
         }
+        sys::QS_ERR_NOMEM => Err(ReceiveError::OutOfMemory(next)),
+        result => unexpected(result),
+    }
+}
+
+/// The result of a call that writes a payload.
+#[inline]
+pub(crate) fn emitted(
+    result: i32,
+    payload: &sys::qs_payload,
+) -> Result<Option<Payload>, OutOfMemory> {
+    match result {
+        sys::QS_OK => Ok(Some(Payload::of(payload))),
+        sys::QS_DONE => Ok(None),
+        sys::QS_ERR_NOMEM => Err(OutOfMemory),
+        result => unexpected(result),
+    }
+}
+
+/// The version of the library that is linked, as major, minor and patch version.
+///
+/// ```
+/// let (major, minor, _) = quic_streams::version();
+/// assert_eq!((major, minor), (0, 1));
+/// ```
+#[must_use]
+pub fn version() -> (u32, u32, u32) {
+    // SAFETY: the call has no arguments and reads a constant.
+    let number = unsafe { sys::qs_version() };
+    (number >> 16, number >> 8 & 0xff, number & 0xff)
+}
+
+/// The endpoint, its streams and its events.
+impl StreamsState {
+    /// Makes an endpoint with no open stream and nothing to send. Nothing can be sent until the peer's limits are set, by
+    /// [`StreamsState::set_params`].
+    ///
+    /// # Errors
+    ///
+    /// [`ConfigError`] if a stream limit is above 2^60, or memory runs out.
+    ///
+    /// # Panics
+    ///
+    /// If the library is of another minor version than this crate ([`version`]): its structs may have other fields.
+    pub fn new(side: Side, config: &Config) -> Result<Self, ConfigError> {
+        let (major, minor, _) = version();
+        assert!(
+            (major, minor) == (sys::QS_VERSION_MAJOR, sys::QS_VERSION_MINOR),
+            "libquic_streams is version {major}.{minor}, and not that of this crate"
+        );
+        let raw = config.raw(side.number());
+        let made = Self {
+            conn: UnsafeCell::new(sys::qs_conn::ZERO),
+        };
+        // SAFETY: the handle is closed and this session's, and `raw` is a local of its own.
+        configured(unsafe { sys::qs_conn_open(made.handle(), &raw) })?;
+        Ok(made)
+    }
+
+    /// The handle, for the one call that is made now. No reference to it exists: it is reached by pointers alone.
+    #[inline]
+    pub(crate) fn handle(&self) -> *mut sys::qs_conn {
+        self.conn.get()
     }
 
     /// Sets the limits of the peer's transport parameters. For 0-RTT, call it first with the remembered limits. Each open
-    /// stream of this end gets its new limit, with an event where it can be written on again. Out of memory, nothing
-    /// changes; no memory is needed where this end opened no stream.
+    /// stream of this endpoint gets its new limit, with an event if it was blocked.
+    ///
+    /// # Errors
+    ///
+    /// [`ConfigError::OutOfRange`] if a stream limit is above 2^60: close the connection with TRANSPORT_PARAMETER_ERROR (RFC
+    /// 9000 section 18.2). [`ConfigError::OutOfMemory`], never if this endpoint opened no stream.
     pub fn set_params(&mut self, limits: &Limits) -> Result<(), ConfigError> {
-        let raw = sys::PeerLimits {
-            initial_max_data: limits.initial_max_data,
-            initial_max_streams_bidi: limits.initial_max_streams_bidi,
-            initial_max_streams_uni: limits.initial_max_streams_uni,
-            initial_max_stream_data_uni: limits.initial_max_stream_data_uni,
-            initial_max_stream_data_bidi_local: limits.initial_max_stream_data_bidi_local,
-            initial_max_stream_data_bidi_remote: limits.initial_max_stream_data_bidi_remote,
-            max_datagram: number(limits.max_datagram),
-        };
-        match unsafe { sys::qs_set_peer_limits(&mut self.conn, &raw) } {
-            sys::OK => Ok(()),
-            sys::ARGUMENT => Err(ConfigError::OutOfRange),
-            _ => Err(ConfigError::OutOfMemory),
-        }
+        let raw = limits.raw();
+        // SAFETY: the handle is this session's, and `raw` is a local of its own.
+        configured(unsafe { sys::qs_set_peer_limits(self.handle(), &raw) })
     }
 
-    /// To be called once the connection is closed: no stream is opened and nothing is written any more. What was received
-    /// can be read.
+    /// Reports that the connection is closing: no stream is opened and nothing is written any more. Received data can be
+    /// read.
     pub fn close(&mut self) {
-        unsafe { sys::qs_conn_close(&mut self.conn) };
+        // SAFETY: the handle is this session's.
+        must_be_done(unsafe { sys::qs_conn_close(self.handle()) });
     }
 
-    /// Opens the next stream of a direction. `None`: as many were opened as the peer permits, or the connection is closed.
+    /// Opens the next stream of a direction. `None`: the peer's stream limit is reached, or the connection is closing.
+    ///
+    /// # Errors
+    ///
+    /// [`OutOfMemory`], and no stream is opened.
     pub fn open(&mut self, dir: Dir) -> Result<Option<StreamId>, OutOfMemory> {
         let mut id = 0;
-        match unsafe { sys::qs_stream_open(&mut self.conn, dir.number(), &mut id) } {
-            sys::OK => Ok(Some(StreamId(id))),
-            sys::DONE => Ok(None),
-            _ => Err(OutOfMemory),
+        // SAFETY: the handle is this session's, and `id` is a local of its own.
+        match unsafe { sys::qs_stream_open(self.handle(), dir.number(), &mut id) } {
+            sys::QS_OK => Ok(Some(StreamId::returned(id))),
+            sys::QS_DONE => Ok(None),
+            sys::QS_ERR_NOMEM => Err(OutOfMemory),
+            result => unexpected(result),
         }
     }
 
     /// Accepts the next stream of a direction that the peer opened, in the order of their ids. `None`: none waits.
     pub fn accept(&mut self, dir: Dir) -> Option<StreamId> {
         let mut id = 0;
-        match unsafe { sys::qs_stream_accept(&mut self.conn, dir.number(), &mut id) } {
-            sys::OK => Some(StreamId(id)),
-            _ => None,
+        // SAFETY: the handle is this session's, and `id` is a local of its own.
+        match unsafe { sys::qs_stream_accept(self.handle(), dir.number(), &mut id) } {
+            sys::QS_OK => Some(StreamId::returned(id)),
+            sys::QS_DONE => None,
+            result => unexpected(result),
         }
     }
 
@@ -128,60 +222,142 @@ impl StreamsState {
         RecvStream { state: self, id }
     }
 
-    /// Takes the next event for the application, if there is one.
+    /// Removes and returns the next event for the application, if there is one.
     #[inline]
     pub fn poll(&mut self) -> Option<Event> {
-        let mut event = sys::Event::default();
-        match unsafe { sys::qs_poll(&mut self.conn, &mut event) } {
-            sys::OK => Event::of(&event),
-            _ => None,
+        let mut event = sys::qs_event::ZERO;
+        // SAFETY: the handle is this session's, and `event` is a local of its own.
+        match unsafe { sys::qs_poll(self.handle(), &mut event) } {
+            sys::QS_OK => Some(Event::of(&event)),
+            sys::QS_DONE => None,
+            result => unexpected(result),
         }
     }
 
-    /// Takes a whole payload of the peer.
+    /// The server rejected the 0-RTT data of a client (RFC 9001 section 4.6.2). Discards the client's streams with all sent
+    /// and pending data, and all tokens of earlier payloads. Set the peer's limits next.
+    pub fn zero_rtt_rejected(&mut self) {
+        // SAFETY: the handle is this session's.
+        must_be_done(unsafe { sys::qs_zero_rtt_rejected(self.handle()) });
+    }
+
+    /// Queues all data that was sent in 0-RTT again, as needed after a Retry (RFC 9000 section 17.2.5). Control frames are
+    /// not covered: report the earlier payloads lost. Meant for a time at which nothing was acknowledged.
+    ///
+    /// # Errors
+    ///
+    /// [`OutOfMemory`].
+    pub fn retransmit_all_for_0rtt(&mut self) -> Result<(), OutOfMemory> {
+        // SAFETY: the handle is this session's.
+        memory(unsafe { sys::qs_retransmit_all_for_0rtt(self.handle()) })
+    }
+
+    /// Sets how many written bytes are buffered at most until they are acknowledged.
+    pub fn set_send_window(&mut self, window: u64) {
+        // SAFETY: the handle is this session's.
+        must_be_done(unsafe { sys::qs_set_send_window(self.handle(), window) });
+    }
+
+    /// Sets how many bytes of all streams may be received and not read. A smaller window takes back no advertised credit.
+    pub fn set_receive_window(&mut self, window: VarInt) {
+        // SAFETY: the handle is this session's.
+        must_be_done(unsafe { sys::qs_set_receive_window(self.handle(), window.into()) });
+    }
+
+    /// Sets how many streams of a direction the peer may use at a time. A lower number takes back none that were allowed.
+    ///
+    /// # Errors
+    ///
+    /// [`OutOfMemory`].
+    pub fn set_max_concurrent(&mut self, dir: Dir, count: VarInt) -> Result<(), OutOfMemory> {
+        // SAFETY: the handle is this session's.
+        memory(unsafe { sys::qs_set_max_concurrent(self.handle(), dir.number(), count.into()) })
+    }
+
+    /// The state of this endpoint.
+    #[must_use]
+    pub fn info(&self) -> Info {
+        let mut info = sys::qs_info::ZERO;
+        // SAFETY: the handle is this session's, and `info` is a local of its own.
+        must_be_done(unsafe { sys::qs_get_info(self.handle(), &mut info) });
+        Info::of(&info)
+    }
+}
+
+/// Payloads.
+impl StreamsState {
+    /// Processes the frames of a payload of the peer: those of streams and datagrams. PADDING, PING and STREAMS_BLOCKED frames
+    /// are skipped. In front of a frame of another type, such as ACK or CRYPTO, it stops: the host processes that frame, and
+    /// goes on behind it with [`StreamsState::receive_from`].
+    ///
+    /// The host checks which frames its packet may have (RFC 9000 section 12.4), and rejects a payload without frames.
+    ///
+    /// ```
+    /// # use quic_streams::{Config, Received, Side, StreamsState};
+    /// # fn acknowledged(frame: &[u8]) -> usize { 5 }
+    /// # fn main() -> Result<(), Box<dyn std::error::Error>> {
+    /// # let mut server = StreamsState::new(Side::Server, &Config::default())?;
+    /// let payload = b"\x02\x07\x00\x00\x00\x0a\x02\x05hello"; // an ACK and a STREAM frame
+    /// let mut received = server.receive(payload)?;
+    /// while let Received::OtherFrame { at } = received {
+    ///     let len = acknowledged(&payload[at..]); // the length of the host's frame
+    ///     received = server.receive_from(payload, at + len)?;
+    /// }
+    /// # Ok(())
+    /// # }
+    /// ```
+    ///
+    /// # Errors
+    ///
+    /// [`ReceiveError::Transport`] if the connection has to be closed. [`ReceiveError::OutOfMemory`] if memory runs out: go
+    /// on with [`StreamsState::receive_from`], or treat the packet as not received.
     #[inline]
-    pub fn receive(&mut self, payload: &[u8]) -> Result<(), ReceiveError> {
+    pub fn receive(&mut self, payload: &[u8]) -> Result<Received, ReceiveError> {
         self.receive_from(payload, 0)
     }
 
-    /// The same from frame `first` on, for a payload of which an earlier call ran out of memory at that frame.
+    /// Processes a payload from byte `at` on: behind a frame of the host, or where an earlier call ran out of memory.
+    ///
+    /// # Errors
+    ///
+    /// As [`StreamsState::receive`].
+    ///
+    /// # Panics
+    ///
+    /// If `at` is above the length of the payload.
     #[inline]
-    pub fn receive_from(&mut self, payload: &[u8], first: usize) -> Result<(), ReceiveError> {
-        let (mut next, mut error) = (first, sys::Error::none());
-        let (data, len) = (payload.as_ptr(), payload.len());
-        match unsafe { sys::qs_receive(&mut self.conn, data, len, &mut next, &mut error) } {
-            sys::OK => Ok(()),
-            sys::PROTOCOL | sys::MALFORMED => Err(ReceiveError::Transport(transport_error(&error))),
-            _ => Err(ReceiveError::OutOfMemory(next)),
-        }
+    pub fn receive_from(&mut self, payload: &[u8], at: usize) -> Result<Received, ReceiveError> {
+        assert!(at <= payload.len(), "the payload ends before this byte");
+        let (mut next, mut error) = (at, sys::qs_error::ZERO);
+        let (conn, bytes, len) = (self.handle(), payload.as_ptr(), payload.len());
+        // SAFETY: the handle is this session's, `bytes` points to `len` bytes, and `next` and `error` are locals of their
+        // own.
+        let result = unsafe { sys::qs_receive(conn, bytes, len, &mut next, &mut error) };
+        received(result, next, &error)
     }
 
-    /// Writes what is due into `out`. `None` where nothing that is due fits.
+    /// Writes pending frames into `out`. `None`: no pending frame fits. Each pending control and STREAM frame fits into 26
+    /// bytes.
+    ///
+    /// # Errors
+    ///
+    /// [`OutOfMemory`], and nothing is written.
     #[inline]
     pub fn emit(&mut self, out: &mut [u8], what: Emit) -> Result<Option<Payload>, OutOfMemory> {
-        let mut payload = sys::Payload::default();
-        if what.parts() == 0 {
-            return Ok(None);
-        }
-        let answer = unsafe {
-            sys::qs_emit(
-                &mut self.conn,
-                what.parts(),
-                u32::from(what.fair),
-                out.as_mut_ptr(),
-                out.len(),
-                &mut payload,
-            )
+        let parts = match what.raw() {
+            Some(parts) => parts,
+            None => return Ok(None),
         };
-        match answer {
-            sys::OK => Ok(Some(payload_of(&payload))),
-            sys::DONE => Ok(None),
-            _ => Err(OutOfMemory),
-        }
+        let mut payload = sys::qs_payload::ZERO;
+        let (conn, fair) = (self.handle(), u32::from(what.fair));
+        let (at, cap) = (out.as_mut_ptr(), out.len());
+        // SAFETY: the handle is this session's, `at` points to `cap` bytes, and `payload` is a local of its own.
+        let result = unsafe { sys::qs_emit(conn, parts, fair, at, cap, &mut payload) };
+        emitted(result, &payload)
     }
 
-    /// Writes what is due into memory of the library, at most `max_size` bytes. This saves a copy where the host copies or
-    /// encrypts the bytes to another place anyway. `None` where nothing that is due fits.
+    /// Writes pending frames into memory of the library, at most `max_size` bytes. This saves a copy if the host copies or
+    /// encrypts the bytes to another place anyway. `None`: no pending frame fits.
     ///
     /// ```
     /// # use quic_streams::{Config, Dir, Emit, Limits, Side, StreamsState};
@@ -191,8 +367,8 @@ impl StreamsState {
     /// # client.set_params(&Limits::of(&config))?;
     /// # let id = client.open(Dir::Uni)?.unwrap();
     /// # client.send_stream(id).write(b"hello")?;
-    /// let mut packet = vec![0x40]; // the head of a packet
-    /// let payload = client.emit_lent(1200, Emit::default())?.expect("data are due");
+    /// let mut packet = vec![0x40]; // the header of a packet
+    /// let payload = client.emit_lent(1200, Emit::ALL)?.expect("data is pending");
     /// packet.extend_from_slice(payload.bytes);
     /// let token = payload.token;
     /// # assert_eq!(&packet[4..], b"hello");
@@ -200,39 +376,65 @@ impl StreamsState {
     /// # Ok(())
     /// # }
     /// ```
+    ///
+    /// The bytes cannot be used after the next call:
+    ///
+    /// ```compile_fail,E0499
+    /// # use quic_streams::{Emit, StreamsState};
+    /// fn two_at_once(state: &mut StreamsState) {
+    ///     let first = state.emit_lent(1200, Emit::ALL).unwrap().unwrap();
+    ///     state.poll();
+    ///     assert!(!first.bytes.is_empty());
+    /// }
+    /// ```
+    ///
+    /// Nor after a question:
+    ///
+    /// ```compile_fail,E0502
+    /// # use quic_streams::{Emit, StreamsState};
+    /// fn asked(state: &mut StreamsState) {
+    ///     let first = state.emit_lent(1200, Emit::ALL).unwrap().unwrap();
+    ///     state.due();
+    ///     assert!(!first.bytes.is_empty());
+    /// }
+    /// ```
+    ///
+    /// Nor after the endpoint is gone:
+    ///
+    /// ```compile_fail,E0515
+    /// # use quic_streams::{Emit, StreamsState};
+    /// fn kept(mut state: StreamsState) -> &'static [u8] {
+    ///     state.emit_lent(1200, Emit::ALL).unwrap().unwrap().bytes
+    /// }
+    /// ```
+    ///
+    /// # Errors
+    ///
+    /// [`OutOfMemory`], and nothing is written.
     #[inline]
     pub fn emit_lent(
         &mut self,
         max_size: usize,
         what: Emit,
     ) -> Result<Option<Lent<'_>>, OutOfMemory> {
-        let (mut payload, mut data) = (sys::Payload::default(), null());
-        if what.parts() == 0 {
-            return Ok(None);
-        }
-        let answer = unsafe {
-            sys::qs_emit_lent(
-                &mut self.conn,
-                what.parts(),
-                u32::from(what.fair),
-                max_size,
-                &mut data,
-                &mut payload,
-            )
+        let parts = match what.raw() {
+            Some(parts) => parts,
+            None => return Ok(None),
         };
-        match answer {
-            // The bytes stay until the next call on the handle, which needs `&mut self`.
-            sys::OK => Ok(Some(Lent {
-                bytes: unsafe { from_raw_parts(data, payload.len as usize) },
-                token: Token(payload.token),
-                ends: payload.ends != 0,
-            })),
-            sys::DONE => Ok(None),
-            _ => Err(OutOfMemory),
-        }
+        let (mut payload, mut data) = (sys::qs_payload::ZERO, null());
+        let (conn, fair) = (self.handle(), u32::from(what.fair));
+        // SAFETY: the handle is this session's, and `data` and `payload` are locals of their own.
+        let result =
+            unsafe { sys::qs_emit_lent(conn, parts, fair, max_size, &mut data, &mut payload) };
+        Ok(emitted(result, &payload)?.map(|written| {
+            // SAFETY: the library wrote `len` bytes at `data`. They stay until the next call on the handle, which cannot be
+            // made while this borrow of `&mut self` lives.
+            let bytes = unsafe { from_raw_parts(data, written.len) };
+            Lent::new(bytes, written)
+        }))
     }
 
-    /// What waits to be sent.
+    /// What is pending.
     ///
     /// ```
     /// # use quic_streams::{Config, Dir, Limits, Side, StreamsState};
@@ -240,7 +442,7 @@ impl StreamsState {
     /// # let config = Config::default();
     /// # let mut client = StreamsState::new(Side::Client, &config)?;
     /// # client.set_params(&Limits::of(&config))?;
-    /// let id = client.open(Dir::Uni)?.expect("a stream is permitted");
+    /// let id = client.open(Dir::Uni)?.expect("a stream is allowed");
     /// assert!(!client.due().streams);
     /// client.send_stream(id).write(b"hello")?;
     /// assert!(client.due().streams);
@@ -248,137 +450,35 @@ impl StreamsState {
     /// # }
     /// ```
     #[inline]
-    pub fn due(&mut self) -> Due {
-        let mut raw = sys::Due::default();
-        unsafe { sys::qs_get_due(&mut self.conn, &mut raw) };
-        Due {
-            control: raw.control != 0,
-            datagrams: raw.datagrams != 0,
-            streams: raw.streams != 0,
-        }
+    #[must_use]
+    pub fn due(&self) -> Due {
+        let mut due = sys::qs_due::ZERO;
+        // SAFETY: the handle is this session's, and `due` is a local of its own.
+        must_be_done(unsafe { sys::qs_get_due(self.handle(), &mut due) });
+        Due::of(&due)
     }
 
     /// Reports that the packet of a payload was acknowledged.
+    ///
+    /// # Errors
+    ///
+    /// [`SettleError::UnknownToken`] if the payload was reported before: a late acknowledgement of a payload that was
+    /// reported lost needs no call. [`SettleError::OutOfMemory`] if a part was reported: call again for the rest.
     #[inline]
     pub fn acked(&mut self, token: Token) -> Result<(), SettleError> {
-        settled(unsafe { sys::qs_acked(&mut self.conn, token.0) })
+        // SAFETY: the handle is this session's.
+        reported(unsafe { sys::qs_acked(self.handle(), token.into_inner()) })
     }
 
-    /// Reports that the packet of a payload is taken to be lost.
+    /// Reports that the packet of a payload is declared lost. A probe (RFC 9002 section 6.2.4) that is to carry the data of
+    /// a payload again reports it lost first.
+    ///
+    /// # Errors
+    ///
+    /// As [`StreamsState::acked`].
     #[inline]
     pub fn lost(&mut self, token: Token) -> Result<(), SettleError> {
-        settled(unsafe { sys::qs_lost(&mut self.conn, token.0) })
-    }
-
-    /// The server rejected the 0-RTT of a client (RFC 9001 section 4.6.2). The client's streams are gone, with all that was
-    /// sent and was to be sent. Tokens of earlier payloads are gone too. Set the peer's limits next.
-    pub fn zero_rtt_rejected(&mut self) {
-        unsafe { sys::qs_zero_rtt_rejected(&mut self.conn) };
-    }
-
-    /// All data that was sent in 0-RTT has to be sent again, as after a Retry (RFC 9000 section 17.2.5). This call does not
-    /// cover control frames: report the payloads lost. Meant for a time at which nothing was acknowledged.
-    pub fn retransmit_all_for_0rtt(&mut self) -> Result<(), OutOfMemory> {
-        memory(unsafe { sys::qs_retransmit_all_for_0rtt(&mut self.conn) })
-    }
-
-    /// Sets how many written bytes are kept at most until they are acknowledged.
-    pub fn set_send_window(&mut self, window: u64) {
-        unsafe { sys::qs_set_send_window(&mut self.conn, window) };
-    }
-
-    /// Sets how many bytes of all streams together may be received and not read, below 2^62.
-    pub fn set_receive_window(&mut self, window: u64) -> Result<(), ConfigError> {
-        match unsafe { sys::qs_set_receive_window(&mut self.conn, window) } {
-            sys::OK => Ok(()),
-            _ => Err(ConfigError::OutOfRange),
-        }
-    }
-
-    /// Sets how many streams of a direction the peer may use at a time, below 2^62.
-    pub fn set_max_concurrent(&mut self, dir: Dir, count: u64) -> Result<(), ConfigError> {
-        match unsafe { sys::qs_set_max_concurrent(&mut self.conn, dir.number(), count) } {
-            sys::OK => Ok(()),
-            sys::ARGUMENT => Err(ConfigError::OutOfRange),
-            _ => Err(ConfigError::OutOfMemory),
-        }
-    }
-
-    /// The state of this end.
-    pub fn info(&mut self) -> Info {
-        let mut raw = sys::Info::default();
-        unsafe { sys::qs_get_info(&mut self.conn, &mut raw) };
-        Info {
-            local_max_data: raw.local_max_data,
-            data_received: raw.data_received,
-            write_limit: raw.write_limit,
-            send_streams: raw.send_streams,
-            remote_open_bi: raw.remote_open_bidi,
-            remote_open_uni: raw.remote_open_uni,
-            payloads: raw.payloads,
-            can_send_stream_data: raw.can_send_stream_data != 0,
-            has_pending: raw.has_pending != 0,
-        }
-    }
-
-    /// Queues a datagram. With `drop`, the oldest waiting datagrams are dropped until it fits.
-    pub fn send_datagram(&mut self, data: &[u8], drop: bool) -> Result<(), SendDatagramError> {
-        let (at, len) = (data.as_ptr(), data.len());
-        match unsafe { sys::qs_datagram_send(&mut self.conn, at, len, u32::from(drop)) } {
-            sys::OK => Ok(()),
-            sys::DATAGRAMS_OFF => Err(SendDatagramError::Disabled),
-            sys::TOO_LARGE => Err(SendDatagramError::TooLarge),
-            sys::BLOCKED => Err(SendDatagramError::Blocked),
-            _ => Err(SendDatagramError::OutOfMemory),
-        }
-    }
-
-    /// Takes the oldest received datagram, if one waits.
-    pub fn recv_datagram(&mut self) -> Option<Vec<u8>> {
-        let mut data = Vec::new();
-        loop {
-            let mut count = 0;
-            let (at, cap) = (data.as_mut_ptr(), data.len());
-            match unsafe { sys::qs_datagram_recv(&mut self.conn, at, cap, &mut count) } {
-                sys::OK => {
-                    data.truncate(count);
-                    return Some(data);
-                }
-                sys::TOO_SMALL => data.resize(count, 0),
-                _ => return None,
-            }
-        }
-    }
-
-    /// The length of the longest datagram that can be sent, or `None` where the peer takes none.
-    pub fn max_datagram_size(&mut self) -> Option<usize> {
-        let mut size = 0;
-        match unsafe { sys::qs_datagram_max_size(&mut self.conn, &mut size) } {
-            sys::OK => Some(size),
-            _ => None,
-        }
-    }
-
-    /// The length of the longest datagram that can be queued now without dropping another.
-    pub fn datagram_send_buffer_space(&mut self) -> usize {
-        let mut size = 0;
-        unsafe { sys::qs_datagram_send_space(&mut self.conn, &mut size) };
-        size
-    }
-
-    /// Sets the length of the longest datagram that the path and the peer take, or `None` where the peer takes none, and
-    /// drops longer ones that wait.
-    pub fn set_max_datagram_size(&mut self, size: Option<u64>) {
-        unsafe { sys::qs_datagram_set_max_size(&mut self.conn, number(size)) };
-    }
-}
-
-// The result of a report.
-#[inline]
-fn settled(answer: i32) -> Result<(), SettleError> {
-    match answer {
-        sys::OK => Ok(()),
-        sys::TOKEN => Err(SettleError::UnknownToken),
-        _ => Err(SettleError::OutOfMemory),
+        // SAFETY: the handle is this session's.
+        reported(unsafe { sys::qs_lost(self.handle(), token.into_inner()) })
     }
 }

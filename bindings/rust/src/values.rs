@@ -1,180 +1,44 @@
-use crate::sys;
-use std::fmt;
-
-/// One of the two ends of a connection.
-#[derive(Clone, Copy, Debug, PartialEq, Eq, Hash)]
-pub enum Side {
-    /// The end that opened the connection.
-    Client,
-    /// The other end.
-    Server,
-}
-
-/// Whether a stream carries data both ways.
-#[derive(Clone, Copy, Debug, PartialEq, Eq, Hash)]
-pub enum Dir {
-    /// Bidirectional: data flows both ways.
-    Bi,
-    /// Unidirectional: data flows from the initiator alone.
-    Uni,
-}
-
-impl Dir {
-    pub(crate) fn number(self) -> u32 {
-        match self {
-            Dir::Bi => 0,
-            Dir::Uni => 1,
-        }
-    }
-
-    pub(crate) fn of(number: u32) -> Dir {
-        if number == 0 {
-            Dir::Bi
-        } else {
-            Dir::Uni
-        }
-    }
-}
-
-/// The id of a stream, below 2^62 (RFC 9000 section 2.1).
-#[derive(Clone, Copy, Debug, PartialEq, Eq, PartialOrd, Ord, Hash)]
-pub struct StreamId(pub u64);
-
-impl StreamId {
-    /// Which end opens the stream.
-    pub fn initiator(self) -> Side {
-        if self.0 & 1 == 0 {
-            Side::Client
-        } else {
-            Side::Server
-        }
-    }
-
-    /// Whether it carries data both ways.
-    pub fn dir(self) -> Dir {
-        Dir::of((self.0 >> 1 & 1) as u32)
-    }
-
-    /// How many streams of its initiator and direction have a lower id.
-    pub fn index(self) -> u64 {
-        self.0 >> 2
-    }
-}
-
-impl fmt::Display for StreamId {
-    fn fmt(&self, f: &mut fmt::Formatter<'_>) -> fmt::Result {
-        let initiator = match self.initiator() {
-            Side::Client => "client",
-            Side::Server => "server",
-        };
-        let dir = match self.dir() {
-            Dir::Bi => "bidirectional",
-            Dir::Uni => "unidirectional",
-        };
-        write!(f, "{initiator} {dir} stream {}", self.index())
-    }
-}
-
-/// The configuration of an end.
-#[derive(Clone, Copy, Debug, PartialEq, Eq)]
-pub struct Config {
-    /// How many unidirectional streams the peer may open at first, at most 2^60. Memory is taken for all at once.
-    pub max_remote_uni: u64,
-    /// The same for bidirectional streams.
-    pub max_remote_bi: u64,
-    /// How many written bytes are kept at most until they are acknowledged.
-    pub send_window: u64,
-    /// How many bytes of all streams together may be received and not read, below 2^62.
-    pub receive_window: u64,
-    /// The same for each stream.
-    pub stream_window: u64,
-    /// How many bytes of datagrams may be received and not read; each counts 32 bytes more than its length. `None` where the
-    /// peer may send none.
-    pub datagram_receive: Option<u64>,
-    /// How many bytes of datagrams may wait to be sent, counted in the same way.
-    pub datagram_send: u64,
-}
-
-impl Default for Config {
-    /// A hundred streams of each direction; a megabyte for each stream, ten for all together, and one for datagrams.
-    fn default() -> Self {
-        Config {
-            max_remote_uni: 100,
-            max_remote_bi: 100,
-            send_window: 10_000_000,
-            receive_window: 10_000_000,
-            stream_window: 1_000_000,
-            datagram_receive: Some(1_000_000),
-            datagram_send: 1_000_000,
-        }
-    }
-}
-
-/// The limits in the peer's transport parameters (RFC 9000 section 18.2), each below 2^62. The default is that of absent
-/// parameters: nothing is permitted.
-#[derive(Clone, Copy, Debug, Default, PartialEq, Eq)]
-#[allow(missing_docs)]
-pub struct Limits {
-    pub initial_max_data: u64,
-    pub initial_max_streams_bidi: u64,
-    pub initial_max_streams_uni: u64,
-    pub initial_max_stream_data_uni: u64,
-    pub initial_max_stream_data_bidi_local: u64,
-    pub initial_max_stream_data_bidi_remote: u64,
-    /// The length of the longest datagram that the path and the peer take, or `None` where the peer takes none.
-    pub max_datagram: Option<u64>,
-}
-
-impl Limits {
-    /// The limits that an end of this configuration announces to its peer, with datagrams of at most 1200 bytes.
-    pub fn of(config: &Config) -> Self {
-        Limits {
-            initial_max_data: config.receive_window,
-            initial_max_streams_bidi: config.max_remote_bi,
-            initial_max_streams_uni: config.max_remote_uni,
-            initial_max_stream_data_uni: config.stream_window,
-            initial_max_stream_data_bidi_local: config.stream_window,
-            initial_max_stream_data_bidi_remote: config.stream_window,
-            max_datagram: config.datagram_receive.map(|_| 1200),
-        }
-    }
-}
+use crate::errors::unexpected;
+use crate::id::{Dir, StreamId};
+use crate::varint::VarInt;
+use quic_streams_sys as sys;
+use std::ops::BitOr;
 
 /// An event for the application.
 #[derive(Clone, Copy, Debug, PartialEq, Eq)]
 #[non_exhaustive]
 pub enum Event {
-    /// The peer opened streams of a direction: accept them.
+    /// The peer opened streams of a direction: accept and read them. Their first data raises no [`Event::Readable`].
     Opened {
         /// The direction.
         dir: Dir,
     },
-    /// A stream may have bytes, an end or a reset to read.
+    /// A stream may have bytes, FIN or a reset to read. One that is not yet accepted is read after that.
     Readable {
         /// The stream.
         id: StreamId,
-    },
-    /// A stream that was blocked may take bytes now.
-    Writable {
-        /// The stream.
-        id: StreamId,
-    },
-    /// All data of a stream was acknowledged, with its end.
-    Finished {
-        /// The stream.
-        id: StreamId,
-    },
-    /// The peer sent STOP_SENDING for a stream.
-    Stopped {
-        /// The stream.
-        id: StreamId,
-        /// The application error code.
-        error_code: u64,
     },
     /// More streams of a direction may be opened.
     Available {
         /// The direction.
         dir: Dir,
+    },
+    /// All data of a stream and its FIN are acknowledged.
+    Finished {
+        /// The stream.
+        id: StreamId,
+    },
+    /// A stream that was blocked may accept bytes now.
+    Writable {
+        /// The stream.
+        id: StreamId,
+    },
+    /// The peer sent STOP_SENDING for a stream: reset it.
+    Stopped {
+        /// The application error code.
+        error_code: VarInt,
+        /// The stream.
+        id: StreamId,
     },
     /// A datagram can be read, and none could before.
     DatagramReceived,
@@ -183,132 +47,249 @@ pub enum Event {
 }
 
 impl Event {
-    pub(crate) fn of(event: &sys::Event) -> Option<Event> {
-        let (dir, id) = (Dir::of(event.dir), StreamId(event.id));
-        Some(match event.kind {
-            1 => Event::Opened { dir },
-            2 => Event::Readable { id },
-            3 => Event::Writable { id },
-            4 => Event::Finished { id },
-            5 => Event::Stopped {
+    pub(crate) fn of(event: &sys::qs_event) -> Self {
+        let (dir, id) = (Dir::of(event.dir), StreamId::returned(event.id));
+        match event.kind {
+            sys::QS_EVENT_OPENED => Self::Opened { dir },
+            sys::QS_EVENT_READABLE => Self::Readable { id },
+            sys::QS_EVENT_WRITABLE => Self::Writable { id },
+            sys::QS_EVENT_FINISHED => Self::Finished { id },
+            sys::QS_EVENT_STOPPED => Self::Stopped {
                 id,
-                error_code: event.app_code,
+                error_code: VarInt::returned(event.app_code),
             },
-            6 => Event::Available { dir },
-            7 => Event::DatagramReceived,
-            8 => Event::DatagramsUnblocked,
-            _ => return None,
-        })
+            sys::QS_EVENT_AVAILABLE => Self::Available { dir },
+            sys::QS_EVENT_DATAGRAM => Self::DatagramReceived,
+            sys::QS_EVENT_DATAGRAM_ROOM => Self::DatagramsUnblocked,
+            kind => unexpected(kind),
+        }
     }
 }
 
 /// Which frames a payload may have, and how streams share it.
+///
+/// ```
+/// use quic_streams::Emit;
+///
+/// let what = Emit::CONTROL | Emit::STREAMS;
+/// assert!(what.control && !what.datagrams && what.streams && what.fair);
+/// ```
+#[allow(clippy::struct_excessive_bools)] // each names a part
 #[derive(Clone, Copy, Debug, PartialEq, Eq)]
+#[non_exhaustive]
 pub struct Emit {
-    /// Control frames: resets, stops, limits.
+    /// Control frames: RESET_STREAM, STOP_SENDING, MAX_* and *_BLOCKED.
     pub control: bool,
-    /// Datagrams.
+    /// DATAGRAM frames.
     pub datagrams: bool,
-    /// Data of streams.
+    /// STREAM frames.
     pub streams: bool,
     /// Whether streams of one priority take turns; else one goes on until it has nothing left.
     pub fair: bool,
 }
 
+impl Emit {
+    /// All frames.
+    pub const ALL: Self = Self::parts(true, true, true);
+    /// Control frames alone.
+    pub const CONTROL: Self = Self::parts(true, false, false);
+    /// DATAGRAM frames alone.
+    pub const DATAGRAMS: Self = Self::parts(false, true, false);
+    /// STREAM frames alone.
+    pub const STREAMS: Self = Self::parts(false, false, true);
+
+    const fn parts(control: bool, datagrams: bool, streams: bool) -> Self {
+        Self {
+            control,
+            datagrams,
+            streams,
+            fair: true,
+        }
+    }
+
+    /// The number of the parts; `None` without any.
+    pub(crate) fn raw(self) -> Option<u32> {
+        let part = |is_asked: bool, number: u32| if is_asked { number } else { 0 };
+        let parts = part(self.control, sys::QS_CONTROL)
+            | part(self.datagrams, sys::QS_DATAGRAMS)
+            | part(self.streams, sys::QS_STREAMS);
+        (parts != 0).then_some(parts)
+    }
+}
+
 impl Default for Emit {
     /// All frames, with streams in turns.
     fn default() -> Self {
-        Emit {
-            control: true,
-            datagrams: true,
-            streams: true,
-            fair: true,
+        Self::ALL
+    }
+}
+
+/// The frames of both, with streams in turns if both say so.
+impl BitOr for Emit {
+    type Output = Self;
+
+    fn bitor(self, other: Self) -> Self {
+        Self {
+            control: self.control || other.control,
+            datagrams: self.datagrams || other.datagrams,
+            streams: self.streams || other.streams,
+            fair: self.fair && other.fair,
         }
     }
 }
 
-impl Emit {
-    pub(crate) fn parts(self) -> u32 {
-        u32::from(self.control) | u32::from(self.datagrams) << 1 | u32::from(self.streams) << 2
-    }
-}
-
-/// The name of a payload until it is settled, as acknowledged or lost.
+/// The name of a payload until it is reported, as acknowledged or lost.
 #[derive(Clone, Copy, Debug, PartialEq, Eq, PartialOrd, Ord, Hash)]
-pub struct Token(pub(crate) u64);
+pub struct Token(u64);
 
 impl Token {
-    /// The number of a token. The library counts them from 1 on.
-    pub fn into_inner(self) -> u64 {
+    /// The number of a token. The library counts them from 1.
+    #[must_use]
+    pub const fn into_inner(self) -> u64 {
         self.0
     }
 
-    /// The token of a number, for a host that keeps numbers.
-    pub fn from_inner(number: u64) -> Self {
-        Token(number)
+    /// The token of a number, for a host that stores numbers.
+    #[must_use]
+    pub const fn from_inner(number: u64) -> Self {
+        Self(number)
     }
 }
 
 /// A payload that was written.
 #[derive(Clone, Copy, Debug, PartialEq, Eq)]
+#[non_exhaustive]
 pub struct Payload {
     /// How many bytes it has.
     pub len: usize,
-    /// Names it until it is settled.
+    /// Names it until it is reported.
     pub token: Token,
-    /// Whether nothing may follow in its packet, not even padding.
+    /// Whether nothing may follow in its packet, not even padding: its last frame may have no length.
     pub ends: bool,
 }
 
-pub(crate) fn payload_of(raw: &sys::Payload) -> Payload {
-    Payload {
-        len: raw.len as usize,
-        token: Token(raw.token),
-        ends: raw.ends != 0,
+impl Payload {
+    // A length of the library fits: its targets have 64 bits.
+    #[allow(clippy::cast_possible_truncation)]
+    pub(crate) fn of(payload: &sys::qs_payload) -> Self {
+        Self {
+            len: payload.len as usize,
+            token: Token(payload.token),
+            ends: payload.ends != 0,
+        }
     }
 }
 
-/// A payload that was written into memory of the library.
+/// A payload in memory of the library.
 #[derive(Clone, Copy, Debug, PartialEq, Eq)]
+#[non_exhaustive]
 pub struct Lent<'a> {
     /// Its bytes.
     pub bytes: &'a [u8],
-    /// Names it until it is settled.
+    /// Names it until it is reported.
     pub token: Token,
-    /// Whether nothing may follow in its packet, not even padding.
+    /// Whether nothing may follow in its packet, not even padding: its last frame may have no length.
     pub ends: bool,
 }
 
-/// What waits to be sent.
+impl<'a> Lent<'a> {
+    pub(crate) fn new(bytes: &'a [u8], payload: Payload) -> Self {
+        let Payload { token, ends, .. } = payload;
+        Self { bytes, token, ends }
+    }
+}
+
+/// How far a payload was processed.
 #[derive(Clone, Copy, Debug, PartialEq, Eq)]
+#[must_use = "the host processes the frames that are not the library's"]
+pub enum Received {
+    /// All of it.
+    All,
+    /// Up to a frame that the host processes. Go on behind it with [`StreamsState::receive_from`].
+    ///
+    /// [`StreamsState::receive_from`]: crate::StreamsState::receive_from
+    OtherFrame {
+        /// Where it begins in the payload.
+        at: usize,
+    },
+}
+
+/// What is pending.
+#[derive(Clone, Copy, Debug, PartialEq, Eq)]
+#[non_exhaustive]
 pub struct Due {
     /// Control frames.
     pub control: bool,
     /// Datagrams.
     pub datagrams: bool,
-    /// Data of streams.
+    /// Stream data.
     pub streams: bool,
 }
 
-/// The state of an end.
+impl Due {
+    pub(crate) fn of(due: &sys::qs_due) -> Self {
+        Self {
+            control: due.control != 0,
+            datagrams: due.datagrams != 0,
+            streams: due.streams != 0,
+        }
+    }
+}
+
+/// The state of an endpoint.
 #[derive(Clone, Copy, Debug, PartialEq, Eq)]
+#[non_exhaustive]
 pub struct Info {
+    /// How many bidirectional streams the peer may use at a time, as it was set.
+    pub max_concurrent_bi: u64,
+    /// How many unidirectional streams the peer may use at a time, as it was set.
+    pub max_concurrent_uni: u64,
+    /// The peer may open the bidirectional streams of a lower index.
+    pub max_remote_bi: u64,
+    /// The peer may open the unidirectional streams of a lower index.
+    pub max_remote_uni: u64,
+    /// The index of the bidirectional stream that the peer opens next.
+    pub next_remote_bi: u64,
+    /// The index of the unidirectional stream that the peer opens next.
+    pub next_remote_uni: u64,
+    /// How many bidirectional streams the peer has open.
+    pub remote_open_bi: u64,
+    /// How many unidirectional streams the peer has open.
+    pub remote_open_uni: u64,
     /// How many bytes the peer may send in all.
     pub local_max_data: u64,
     /// How many bytes it sent.
     pub data_received: u64,
     /// How many bytes may be written now, on all streams together.
     pub write_limit: u64,
-    /// How many streams have a send side that is held.
+    /// How many streams have an open send side.
     pub send_streams: u64,
-    /// How many bidirectional streams the peer has open.
-    pub remote_open_bi: u64,
-    /// How many unidirectional streams the peer has open.
-    pub remote_open_uni: u64,
-    /// How many payloads are not settled.
+    /// How many payloads were not reported yet.
     pub payloads: u64,
-    /// Whether data wait to be sent.
+    /// Whether stream data is pending.
     pub can_send_stream_data: bool,
-    /// Whether control frames wait to be sent.
+    /// Whether control frames are pending.
     pub has_pending: bool,
+}
+
+impl Info {
+    pub(crate) fn of(info: &sys::qs_info) -> Self {
+        Self {
+            max_concurrent_bi: info.max_concurrent_bidi,
+            max_concurrent_uni: info.max_concurrent_uni,
+            max_remote_bi: info.max_remote_bidi,
+            max_remote_uni: info.max_remote_uni,
+            next_remote_bi: info.next_remote_bidi,
+            next_remote_uni: info.next_remote_uni,
+            remote_open_bi: info.remote_open_bidi,
+            remote_open_uni: info.remote_open_uni,
+            local_max_data: info.local_max_data,
+            data_received: info.data_received,
+            write_limit: info.write_limit,
+            send_streams: info.send_streams,
+            payloads: info.payloads,
+            can_send_stream_data: info.can_send_stream_data != 0,
+            has_pending: info.has_pending != 0,
+        }
+    }
 }

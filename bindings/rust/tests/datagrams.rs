@@ -4,28 +4,24 @@ mod one_end;
 
 use one_end::{emit, emit_all, events, joined, put_number, Result};
 use quic_streams::{
-    Config, Emit, Event, Limits, ReceiveError, SendDatagramError, Side, StreamsState,
+    Config, Emit, Event, Limits, ReceiveError, Received, SendDatagramError, Side, StreamsState,
+    TransportErrorCode,
 };
 
 /// PROTOCOL_VIOLATION (RFC 9000 section 20.1).
-const PROTOCOL_VIOLATION: u64 = 0x0a;
+const PROTOCOL_VIOLATION: TransportErrorCode = TransportErrorCode::PROTOCOL_VIOLATION;
 
 const BLOCKED: std::result::Result<(), SendDatagramError> = Err(SendDatagramError::Blocked);
 
 /// DATAGRAM frames alone.
-const DATAGRAMS: Emit = Emit {
-    control: false,
-    datagrams: true,
-    streams: false,
-    fair: true,
-};
+const DATAGRAMS: Emit = Emit::DATAGRAMS;
 
 /// How much may wait, and what the peer takes.
 #[derive(Clone, Copy)]
 struct Permits {
-    receive: Option<u64>,
-    send: u64,
-    max: Option<u64>,
+    receive: Option<usize>,
+    send: usize,
+    max: Option<usize>,
 }
 
 const LIMITS: Permits = Permits {
@@ -42,21 +38,18 @@ const AMPLE: Permits = Permits {
 };
 
 fn end(permits: Permits) -> Result<StreamsState> {
-    let config = Config {
-        datagram_receive: permits.receive,
-        datagram_send: permits.send,
-        ..Config::default()
-    };
+    let mut config = Config::default();
+    config.datagram_receive = permits.receive;
+    config.datagram_send = permits.send;
     let mut made = StreamsState::new(Side::Client, &config)?;
-    made.set_params(&Limits {
-        max_datagram: permits.max,
-        ..Limits::default()
-    })?;
+    let mut limits = Limits::default();
+    limits.max_datagram = permits.max;
+    made.set_params(&limits)?;
     Ok(made)
 }
 
 /// An end in which received datagrams may count so much together.
-fn receiver(window: u64) -> Result<StreamsState> {
+fn receiver(window: usize) -> Result<StreamsState> {
     end(Permits {
         receive: Some(window),
         ..LIMITS
@@ -64,14 +57,14 @@ fn receiver(window: u64) -> Result<StreamsState> {
 }
 
 /// An end in which datagrams that wait to be sent may count so much together.
-fn sender(send: u64) -> Result<StreamsState> {
+fn sender(send: usize) -> Result<StreamsState> {
     end(Permits { send, ..LIMITS })
 }
 
 /// The next payload of at most so many bytes; empty where nothing is due that fits.
 fn sends(end: &mut StreamsState, max_size: usize) -> Result<Vec<u8>> {
     let payload = emit(end, max_size, DATAGRAMS)?;
-    Ok(payload.unzip().0.unwrap_or_default())
+    Ok(payload.map(|(bytes, _)| bytes).unwrap_or_default())
 }
 
 /// A frame that is taken. It is told where no datagram waited before.
@@ -283,7 +276,7 @@ fn write_needs_the_room() -> Result<()> {
         assert_eq!(sent, [&[0x31, content.len() as u8], content].concat());
         assert!(!end.due().datagrams);
         assert_eq!(sends(&mut end, 100)?, []);
-        end.receive(&sent)?;
+        assert_eq!(end.receive(&sent)?, Received::All);
         shows_received(&mut end, &[content]);
     }
     Ok(())
@@ -318,7 +311,7 @@ fn no_size_up_to_65537_is_refused() -> Result<()> {
         let sent = sends(&mut end, 1 << 20)?;
         assert!(sent == frame(&content), "{size} bytes");
         end.on_datagram(&content)?;
-        end.receive(&sent)?;
+        assert_eq!(end.receive(&sent)?, Received::All);
         for _ in 0..2 {
             assert!(
                 end.recv_datagram().as_ref() == Some(&content),
@@ -332,6 +325,7 @@ fn no_size_up_to_65537_is_refused() -> Result<()> {
 
 /// How many datagrams there are where many are tried. Each has 8 bytes, and counts 40.
 const MANY: u64 = 65_537;
+const ALL: usize = 40 * MANY as usize;
 
 #[test]
 fn no_number_up_to_65537_is_refused() -> Result<()> {
@@ -341,8 +335,8 @@ fn no_number_up_to_65537_is_refused() -> Result<()> {
         end.send_datagram(&content, false)?;
         is_received(&mut end, &content, number == 0);
     }
-    let space = end.datagram_send_buffer_space() as u64;
-    assert_eq!(space, AMPLE.send - 40 * MANY - 32);
+    let space = end.datagram_send_buffer_space();
+    assert_eq!(space, AMPLE.send - ALL - 32);
     let sent = joined(&emit_all(&mut end, 1200, DATAGRAMS)?);
     let frames = (0..MANY).flat_map(|number| frame(&number.to_be_bytes()));
     assert!(sent.into_iter().eq(frames));
@@ -357,7 +351,7 @@ fn no_number_up_to_65537_is_refused() -> Result<()> {
 #[test]
 fn a_window_is_filled_to_its_end() -> Result<()> {
     for more in [0, 1] {
-        let mut end = receiver(40 * MANY)?;
+        let mut end = receiver(ALL)?;
         for number in 0..MANY + more {
             is_received(&mut end, &number.to_be_bytes(), number == 0);
         }

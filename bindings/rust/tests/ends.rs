@@ -1,12 +1,13 @@
 //! Two ends, whose payloads are handed over as each test says.
 
-use quic_streams::{
-    Config, ConfigError, Dir, Emit, Event, Limits, ReadError, ReceiveError, SendDatagramError,
-    SettleError, Side, StreamError, StreamId, StreamsState, WriteError,
-};
-use std::error::Error;
+mod common;
 
-type Result<T> = std::result::Result<T, Box<dyn Error>>;
+use common::{stream_id, varint, Result};
+use quic_streams::{
+    Config, ConfigError, Dir, Emit, Event, Limits, ReadError, ReceiveError, Received,
+    SendDatagramError, SettleError, Side, StreamError, StreamId, StreamsState, TransportErrorCode,
+    VarInt, VarIntBoundsExceeded, WriteError,
+};
 
 fn ends() -> Result<(StreamsState, StreamsState)> {
     let config = Config::default();
@@ -23,7 +24,7 @@ fn exchange(from: &mut StreamsState, to: &mut StreamsState) -> Result<usize> {
     let mut count = 0;
     let mut packet = [0; 1200];
     while let Some(payload) = from.emit(&mut packet, Emit::default())? {
-        to.receive(&packet[..payload.len])?;
+        assert_eq!(to.receive(&packet[..payload.len])?, Received::All);
         from.acked(payload.token)?;
         count += 1;
     }
@@ -99,22 +100,56 @@ fn streams_end_early() -> Result<()> {
     exchange(&mut a, &mut b)?;
     assert_eq!(b.poll(), Some(Event::Opened { dir: Dir::Bi }));
     assert_eq!(b.accept(Dir::Bi), Some(id));
-    b.recv_stream(id).stop(7)?;
+    b.recv_stream(id).stop(varint(7))?;
     exchange(&mut b, &mut a)?;
-    let stopped = Event::Stopped { id, error_code: 7 };
+    let stopped = Event::Stopped {
+        id,
+        error_code: varint(7),
+    };
     assert_eq!(a.poll(), Some(stopped));
-    assert_eq!(a.send_stream(id).stopped()?, Some(7));
+    assert_eq!(a.send_stream(id).stopped()?, Some(varint(7)));
     assert_eq!(
         a.send_stream(id).write(b"more"),
-        Err(WriteError::Stopped(7))
+        Err(WriteError::Stopped(varint(7)))
     );
-    b.send_stream(id).reset(9)?;
+    b.send_stream(id).reset(varint(9))?;
     exchange(&mut b, &mut a)?;
-    assert_eq!(a.recv_stream(id).received_reset()?, Some(9));
+    assert_eq!(a.recv_stream(id).received_reset()?, Some(varint(9)));
     assert_eq!(
         a.recv_stream(id).received_reset(),
         Err(StreamError::ClosedStream)
     );
+    Ok(())
+}
+
+#[test]
+fn a_stop_is_reported_while_no_limit_leaves_room() -> Result<()> {
+    let mut limits = Limits::of(&Config::default());
+    limits.initial_max_data = varint(5);
+    let mut a = StreamsState::new(Side::Client, &Config::default())?;
+    a.set_params(&limits)?;
+    let id = a.open(Dir::Uni)?.unwrap();
+    assert_eq!(a.send_stream(id).write(b"hello world"), Ok(5));
+    assert_eq!(a.send_stream(id).write(b" "), Err(WriteError::Blocked));
+    a.on_stop_sending(id, varint(7))?;
+    let stopped = Err(WriteError::Stopped(varint(7)));
+    assert_eq!(a.send_stream(id).write(b" "), stopped);
+    a.close();
+    assert_eq!(a.send_stream(id).write(b" "), stopped);
+    assert_eq!(a.send_stream(id).reset(varint(7)), Ok(()));
+    Ok(())
+}
+
+#[test]
+fn the_peers_stream_limits_are_at_most_2_60() -> Result<()> {
+    let mut limits = Limits::of(&Config::default());
+    let mut a = StreamsState::new(Side::Client, &Config::default())?;
+    limits.initial_max_streams_uni = varint((1 << 60) + 1);
+    assert_eq!(a.set_params(&limits), Err(ConfigError::OutOfRange));
+    assert_eq!(a.open(Dir::Uni)?, None);
+    limits.initial_max_streams_uni = varint(1 << 60);
+    assert_eq!(a.set_params(&limits), Ok(()));
+    assert_eq!(a.open(Dir::Uni)?, Some(stream_id(2)));
     Ok(())
 }
 
@@ -142,7 +177,7 @@ fn a_peer_that_breaks_the_protocol_is_told_so() -> Result<()> {
     let Err(ReceiveError::Transport(error)) = b.receive(b"\x0a\x03\x01x") else {
         panic!("a stream that only this end may write was taken");
     };
-    assert_eq!(error.code, 5); // STREAM_STATE_ERROR
+    assert_eq!(error.code, TransportErrorCode::STREAM_STATE_ERROR);
     assert!(!error.reason.is_empty());
     assert!(error.to_string().contains(&error.reason));
     Ok(())
@@ -150,19 +185,15 @@ fn a_peer_that_breaks_the_protocol_is_told_so() -> Result<()> {
 
 #[test]
 fn numbers_above_their_bounds_are_refused() -> Result<()> {
-    let config = Config {
-        stream_window: 1 << 62,
-        ..Config::default()
-    };
+    assert_eq!(VarInt::from_u64(1 << 62), Err(VarIntBoundsExceeded));
+    let mut config = Config::default();
+    config.max_remote_uni = varint((1 << 60) + 1);
     let refused = StreamsState::new(Side::Client, &config).err();
     assert_eq!(refused, Some(ConfigError::OutOfRange));
     let (mut a, _) = ends()?;
     let id = a.open(Dir::Uni)?.unwrap();
-    assert_eq!(
-        a.send_stream(id).reset(1 << 62),
-        Err(StreamError::OutOfRange)
-    );
-    let unknown = StreamId(u64::MAX);
+    assert_eq!(a.send_stream(id).reset(VarInt::MAX), Ok(()));
+    let unknown = StreamId::from(VarInt::MAX);
     assert_eq!(
         a.send_stream(unknown).write(b"x"),
         Err(WriteError::ClosedStream)
@@ -175,7 +206,7 @@ fn numbers_above_their_bounds_are_refused() -> Result<()> {
 #[test]
 fn frames_are_taken_one_by_one() -> Result<()> {
     let (_, mut b) = ends()?;
-    let id = StreamId(2);
+    let id = stream_id(2);
     b.on_stream(id, 3, b"lo", true, 1200)?;
     b.on_stream(id, 0, b"hel", false, 1200)?;
     b.on_datagram(b"news")?;
@@ -191,20 +222,19 @@ fn frames_are_taken_one_by_one() -> Result<()> {
     );
     assert_eq!(stream.read_into(&mut text, false)?, Some((2, 3)));
     assert_eq!(stream.read_into(&mut text, false)?, None);
-    let next = StreamId(6);
-    b.on_reset_stream(next, 9, 0)?;
+    let next = stream_id(6);
+    b.on_reset_stream(next, varint(9), varint(0))?;
     assert_eq!(b.accept(Dir::Uni), Some(next));
-    assert_eq!(b.recv_stream(next).received_reset()?, Some(9));
+    assert_eq!(b.recv_stream(next).received_reset()?, Some(varint(9)));
     Ok(())
 }
 
 #[test]
 fn frames_of_limits_and_stops_reach_the_send_half() -> Result<()> {
     let mut a = StreamsState::new(Side::Client, &Config::default())?;
-    a.set_params(&Limits {
-        initial_max_data: 4,
-        ..Limits::default()
-    })?;
+    let mut limits = Limits::default();
+    limits.initial_max_data = varint(4);
+    a.set_params(&limits)?;
     assert_eq!(a.open(Dir::Uni)?, None);
     a.on_max_streams(Dir::Uni, 1)?;
     assert_eq!(a.poll(), Some(Event::Available { dir: Dir::Uni }));
@@ -215,11 +245,17 @@ fn frames_of_limits_and_stops_reach_the_send_half() -> Result<()> {
     assert_eq!(a.poll(), Some(Event::Writable { id }));
     assert_eq!(a.send_stream(id).write(b"hello")?, 4);
     assert_eq!(a.send_stream(id).write(b"o"), blocked);
-    a.on_max_data(6)?;
+    a.on_max_data(varint(6))?;
     assert_eq!(a.poll(), Some(Event::Writable { id }));
     assert_eq!(a.send_stream(id).write(b"o!")?, 1);
-    a.on_stop_sending(id, 8)?;
-    assert_eq!(a.poll(), Some(Event::Stopped { id, error_code: 8 }));
+    a.on_stop_sending(id, varint(8))?;
+    assert_eq!(
+        a.poll(),
+        Some(Event::Stopped {
+            id,
+            error_code: varint(8)
+        })
+    );
     Ok(())
 }
 
@@ -228,14 +264,15 @@ fn a_frame_that_breaks_the_protocol_is_refused() -> Result<()> {
     let (_, mut b) = ends()?;
     let codes = [
         // STREAM_STATE_ERROR: a stream that only this end may write.
-        (b.on_stream(StreamId(3), 0, b"x", false, 1), 5),
+        (b.on_stream(stream_id(3), 0, b"x", false, 1), 5),
         // FRAME_ENCODING_ERROR: no variable-length integer is as large.
-        (b.on_max_data(1 << 62), 7),
         // FLOW_CONTROL_ERROR: far above what was permitted.
-        (b.on_stream(StreamId(2), 1 << 61, b"x", false, 1), 3),
+        (b.on_stream(stream_id(2), 1 << 61, b"x", false, 1), 3),
     ];
     for (answer, code) in codes {
-        assert!(matches!(answer, Err(ReceiveError::Transport(error)) if error.code == code));
+        assert!(
+            matches!(answer, Err(ReceiveError::Transport(error)) if u64::from(error.code) == code)
+        );
     }
     Ok(())
 }

@@ -2,10 +2,10 @@
 
 mod common;
 
-use common::{control_frames, events, frames, Result};
+use common::{control_frames, events, frames, limits, stream_id, varint, Result};
 use quic_streams::{
-    Config, Dir, Due, Emit, Event, Info, Limits, Next, ReadError, ReceiveError, Side, StreamError,
-    StreamId, StreamsState, WriteError,
+    Config, Dir, Due, Emit, Event, Info, Next, ReadError, ReceiveError, Received, Side,
+    StreamError, StreamId, StreamsState, VarInt, WriteError,
 };
 use std::iter::from_fn;
 
@@ -71,8 +71,8 @@ enum Step {
 #[derive(Debug, PartialEq)]
 struct StreamTold {
     priority: Result<i32, StreamError>,
-    stopped: Result<Option<u64>, StreamError>,
-    reset: Option<Result<Option<u64>, StreamError>>,
+    stopped: Result<Option<VarInt>, StreamError>,
+    reset: Option<Result<Option<VarInt>, StreamError>>,
 }
 
 /// What is told of an end, and the events that wait.
@@ -88,7 +88,7 @@ struct Told {
 }
 
 /// The stream that a busy client has to read as reset. To ask for the code closes it, so that is left to the last.
-const RESET: StreamId = StreamId(15);
+const RESET: StreamId = stream_id(15);
 
 fn ask_stream(end: &mut StreamsState, id: StreamId) -> StreamTold {
     StreamTold {
@@ -107,20 +107,18 @@ fn ask_all(end: &mut StreamsState) -> Told {
         datagram: end.recv_datagram(),
         max_datagram_size: end.max_datagram_size(),
         datagram_space: end.datagram_send_buffer_space(),
-        streams: (0..24).map(|id| ask_stream(end, StreamId(id))).collect(),
+        streams: (0..24).map(|id| ask_stream(end, stream_id(id))).collect(),
     }
 }
 
 /// A client that permits 4 streams of each direction, so many bytes in all, and on each stream.
 fn client(window: u64, stream_window: u64) -> Result<StreamsState> {
-    let config = Config {
-        max_remote_uni: 4,
-        max_remote_bi: 4,
-        send_window: WINDOW,
-        receive_window: window,
-        stream_window,
-        ..Config::default()
-    };
+    let mut config = Config::default();
+    config.max_remote_uni = varint(4);
+    config.max_remote_bi = varint(4);
+    config.send_window = WINDOW;
+    config.receive_window = varint(window);
+    config.stream_window = varint(stream_window);
     Ok(StreamsState::new(Side::Client, &config)?)
 }
 
@@ -128,21 +126,27 @@ fn client(window: u64, stream_window: u64) -> Result<StreamsState> {
 fn hand_in(end: &mut StreamsState, step: &Step) -> Option<(Result<(), ReceiveError>, Answer)> {
     Some(match *step {
         Step::Data(id, offset, bytes, wanted) => {
-            let answer = end.on_stream(StreamId(id), offset, bytes, false, bytes.len());
+            let answer = end.on_stream(stream_id(id), offset, bytes, false, bytes.len());
             (answer, wanted)
         }
         Step::Final(id, offset, bytes, wanted) => {
-            let answer = end.on_stream(StreamId(id), offset, bytes, true, bytes.len());
+            let answer = end.on_stream(stream_id(id), offset, bytes, true, bytes.len());
             (answer, wanted)
         }
-        Step::Reset(id, size, wanted) => (end.on_reset_stream(StreamId(id), 7, size), wanted),
+        Step::Reset(id, size, wanted) => (
+            end.on_reset_stream(stream_id(id), varint(7), varint(size)),
+            wanted,
+        ),
         Step::MaxStreamData(id, limit, wanted) => {
-            (end.on_max_stream_data(StreamId(id), limit), wanted)
+            (end.on_max_stream_data(stream_id(id), limit), wanted)
         }
         Step::MaxStreams(dir, count, wanted) => (end.on_max_streams(dir, count), wanted),
-        Step::StopSending(id, wanted) => (end.on_stop_sending(StreamId(id), 7), wanted),
-        Step::StreamDataBlocked(id, wanted) => (end.receive(&[0x15, id, 9]), wanted),
-        Step::MaxData(limit) => (end.on_max_data(limit), TAKEN),
+        Step::StopSending(id, wanted) => (end.on_stop_sending(stream_id(id), varint(7)), wanted),
+        Step::StreamDataBlocked(id, wanted) => {
+            let received = end.receive(&[0x15, id, 9]);
+            (received.map(|to| assert_eq!(to, Received::All)), wanted)
+        }
+        Step::MaxData(limit) => (end.on_max_data(varint(limit)), TAKEN),
         Step::Read(..) | Step::Counted(_) => return None,
     })
 }
@@ -160,7 +164,7 @@ fn sends_max_data(end: &mut StreamsState) -> Result<bool> {
 fn answer_of(end: &mut StreamsState, answer: Result<(), ReceiveError>) -> Result<Answer> {
     match answer {
         Ok(()) => Ok(Answer::Taken(sends_max_data(end)?)),
-        Err(ReceiveError::Transport(error)) => Ok(Answer::Refused(error.code)),
+        Err(ReceiveError::Transport(error)) => Ok(Answer::Refused(error.code.into())),
         Err(error) => Err(error.into()),
     }
 }
@@ -186,7 +190,7 @@ fn read(end: &mut StreamsState, id: StreamId, pieces: usize) -> (Vec<u8>, Last) 
 fn take(end: &mut StreamsState, step: &Step, is_idle: bool) -> Result<()> {
     match step {
         Step::Read(id, pieces, bytes, last) => {
-            let (given, why) = read(end, StreamId(*id), *pieces);
+            let (given, why) = read(end, stream_id(*id), *pieces);
             assert_eq!((given.as_slice(), &why), (*bytes, last), "{step:?}");
         }
         Step::Counted(count) => assert_eq!(end.info().data_received, *count),
@@ -271,13 +275,19 @@ fn frames_of_a_hostile_peer_are_answered() -> Result<()> {
 
 /// Takes a STOP_SENDING frame with the code 7, and tells whether the application is told of it.
 fn is_stopped(end: &mut StreamsState, id: u64, as_payload: bool) -> Result<bool> {
-    let id = StreamId(id);
+    let id = stream_id(id);
     if as_payload {
-        end.receive(&[0x05, u8::try_from(id.0)?, 7])?;
+        assert_eq!(
+            end.receive(&[0x05, u8::try_from(u64::from(id))?, 7])?,
+            Received::All
+        );
     } else {
-        end.on_stop_sending(id, 7)?;
+        end.on_stop_sending(id, varint(7))?;
     }
-    Ok(events(end).contains(&Event::Stopped { id, error_code: 7 }))
+    Ok(events(end).contains(&Event::Stopped {
+        id,
+        error_code: varint(7),
+    }))
 }
 
 // The streams on which both send are stopped whoever opened them, and those of this end once they are open.
@@ -290,7 +300,7 @@ fn a_stop_is_told_of_what_is_sent_here() -> Result<()> {
         }
         let mut end = writing_client()?;
         assert!(is_stopped(&mut end, 6, as_payload).is_err());
-        assert_eq!(end.open(Dir::Uni)?, Some(StreamId(6)));
+        assert_eq!(end.open(Dir::Uni)?, Some(stream_id(6)));
         assert!(is_stopped(&mut end, 6, as_payload)?);
     }
     Ok(())
@@ -322,7 +332,7 @@ const CROWDED: &[Step] = &[
 fn too_many_pieces_are_kept_and_counted() -> Result<()> {
     let mut end = client(WINDOW, WINDOW)?;
     for index in 0..2048 {
-        let answer = end.on_stream(StreamId(3), 1 + 4 * index, b"gap", false, 3);
+        let answer = end.on_stream(stream_id(3), 1 + 4 * index, b"gap", false, 3);
         assert_eq!(answer_of(&mut end, answer)?, TAKEN, "{index}");
     }
     run(&mut end, CROWDED)
@@ -388,13 +398,16 @@ const REFUSED: &[Step] = &[
     // What only this end sends on, opened or not (RFC 9000 section 19.13).
     Step::StreamDataBlocked(2, STREAM_STATE),
     Step::StreamDataBlocked(6, STREAM_STATE),
+    // Streams of the peer above the limit, in either direction (section 4.6).
+    Step::StopSending(17, STREAM_LIMIT),
+    Step::StreamDataBlocked(17, STREAM_LIMIT),
+    Step::StreamDataBlocked(19, STREAM_LIMIT),
     Step::MaxStreams(Dir::Bi, (1 << 60) + 1, ENCODING),
     Step::MaxStreams(Dir::Uni, GREATEST, ENCODING),
     Step::MaxStreams(Dir::Uni, u64::MAX, ENCODING),
 ];
 
-// What is taken, and has no effect: late frames, limits that do not rise, a stop of what the peer may not open, and limits
-// that hold the peer back.
+// Accepted without effect: late frames, limits that do not rise, and frames that say where the peer is blocked.
 const IDLE: &[Step] = &[
     Step::Data(15, GREATEST, b"x", TAKEN),
     Step::Final(15, 0, TEN, TAKEN),
@@ -404,7 +417,6 @@ const IDLE: &[Step] = &[
     Step::MaxStreams(Dir::Uni, 4, TAKEN),
     Step::MaxStreams(Dir::Bi, 0, TAKEN),
     Step::MaxData(0),
-    Step::StopSending(17, TAKEN),
     Step::StreamDataBlocked(0, TAKEN),
     Step::StreamDataBlocked(1, TAKEN),
     Step::StreamDataBlocked(3, TAKEN),
@@ -417,7 +429,7 @@ const AFTERWARDS: &[Step] = &[
     Step::Read(7, 9, TEN, ENDED),
     Step::Read(0, 9, TEN, BLOCKED),
     Step::Read(1, 9, TEN, BLOCKED),
-    Step::Read(15, 9, b"", Err(ReadError::Reset(7))),
+    Step::Read(15, 9, b"", Err(ReadError::Reset(VarInt::from_u32(7)))),
     Step::Data(3, 10, THIRTY_ONE, TAKEN),
     Step::Read(3, 9, THIRTY_ONE, BLOCKED),
 ];
@@ -426,18 +438,10 @@ const AFTERWARDS: &[Step] = &[
 /// permits 4 streams of each direction, 100 bytes in all, and 10 on each stream.
 fn writing_client() -> Result<StreamsState> {
     let mut end = client(70, 100)?;
-    end.set_params(&Limits {
-        initial_max_data: 100,
-        initial_max_streams_bidi: 4,
-        initial_max_streams_uni: 4,
-        initial_max_stream_data_uni: 10,
-        initial_max_stream_data_bidi_local: 10,
-        initial_max_stream_data_bidi_remote: 10,
-        max_datagram: None,
-    })?;
-    assert_eq!(end.open(Dir::Uni)?, Some(StreamId(2)));
-    assert_eq!(end.open(Dir::Bi)?, Some(StreamId(0)));
-    let mut half = end.send_stream(StreamId(2));
+    end.set_params(&limits(4, 100, 10))?;
+    assert_eq!(end.open(Dir::Uni)?, Some(stream_id(2)));
+    assert_eq!(end.open(Dir::Bi)?, Some(stream_id(0)));
+    let mut half = end.send_stream(stream_id(2));
     assert_eq!(half.write(ELEVEN), Ok(10));
     assert_eq!(half.write(FIVE), Err(WriteError::Blocked));
     Ok(end)
@@ -450,8 +454,8 @@ fn busy_client() -> Result<StreamsState> {
         hand_in(&mut end, step).ok_or("no frame")?.0?;
     }
     let accepted: Vec<StreamId> = from_fn(|| end.accept(Dir::Uni)).collect();
-    assert_eq!(accepted, [3, 7, 11, 15].map(StreamId));
-    end.recv_stream(StreamId(11)).stop(9)?;
+    assert_eq!(accepted, [3, 7, 11, 15].map(stream_id));
+    end.recv_stream(stream_id(11)).stop(varint(9))?;
     for _ in 0..20 {
         end.poll();
     }
@@ -473,7 +477,7 @@ fn a_refused_frame_changes_nothing() -> Result<()> {
 
 /// Reads and writes on each stream, and takes out what is sent then. Tells all answers.
 fn use_streams(end: &mut StreamsState, told: &mut Vec<String>) -> Result<()> {
-    for id in (0..24).map(StreamId) {
+    for id in (0..24).map(stream_id) {
         let reset = end.recv_stream(id).received_reset();
         let given = read(end, id, 9);
         let written = end.send_stream(id).write(ELEVEN);
@@ -498,11 +502,11 @@ fn all_that_follows(end: &mut StreamsState) -> Result<Vec<String>> {
         }
     }
     use_streams(end, &mut told)?;
-    for id in [0, 1, 3, 7, 11, 15].map(StreamId) {
+    for id in [0, 1, 3, 7, 11, 15].map(stream_id) {
         let answer = end.on_stream(id, 10, ELEVEN, false, ELEVEN.len());
         told.push(format!("{id}: {answer:?}"));
     }
-    for id in [5, 13, 17, 19, 21, 23, 27].map(StreamId) {
+    for id in [5, 13, 17, 19, 21, 23, 27].map(stream_id) {
         let answer = end.on_stream(id, 0, b"x", false, 1);
         told.push(format!("{id}: {answer:?}"));
     }

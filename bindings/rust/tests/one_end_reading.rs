@@ -4,7 +4,7 @@ mod one_end;
 
 use one_end::steps::take_in;
 use one_end::*;
-use quic_streams::{Dir, ReadError, StreamId};
+use quic_streams::{Dir, ReadError};
 use std::mem::MaybeUninit;
 
 #[test]
@@ -14,7 +14,7 @@ fn as_many_chunks_are_given_as_are_asked_for() -> Result<()> {
     for size in 1..20 {
         take_in(&mut end, 3, offset, size, false)?;
         end.accept(Dir::Uni);
-        let mut stream = end.recv_stream(StreamId(3));
+        let mut stream = end.recv_stream(stream_id(3));
         let mut reader = stream.chunks(true);
         let answers: Vec<_> = (0..9).map(|_| reader.next(2)).collect();
         let chunks: Vec<_> = answers.iter().flatten().flatten().collect();
@@ -35,7 +35,7 @@ fn a_read_gives_credit() -> Result<()> {
     take_in(&mut end, 3, 0, 1, false)?;
     end.accept(Dir::Uni);
     let mut byte = [0];
-    assert_eq!(end.recv_stream(StreamId(3)).read(&mut byte)?, Some(1));
+    assert_eq!(end.recv_stream(stream_id(3)).read(&mut byte)?, Some(1));
     assert!(end.due().control);
     let (payload, _) = emit(&mut end, 1200, CONTROL)?.expect("a limit is due");
     assert_eq!(control_frames(&payload), [[MAX_STREAM_DATA, 3, 9]]);
@@ -53,7 +53,7 @@ fn a_read_initialises_as_many_bytes_as_it_says() -> Result<()> {
         take_in(&mut end, 3, offset, size, false)?;
         end.accept(Dir::Uni);
         let mut room = [MaybeUninit::new(255); 32];
-        let mut stream = end.recv_stream(StreamId(3));
+        let mut stream = end.recv_stream(stream_id(3));
         let read = stream.read_into_uninit(&mut room, ordered)?;
         assert_eq!(read, Some((size, offset)));
         // SAFETY: all were initialised above.

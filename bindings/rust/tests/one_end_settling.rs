@@ -3,17 +3,16 @@
 mod one_end;
 
 use one_end::*;
-use quic_streams::{Config, Dir, Emit, Event, Side, StreamError, StreamId, StreamsState, Token};
+use quic_streams::{Dir, Emit, Event, Side, StreamError, StreamsState, Token};
 
 const TEXT: &[u8; 10] = b"abcdefghij";
 
 // Control frames, and all data of a stream before those of the next.
-const ONE_BY_ONE: Emit = Emit {
-    control: true,
-    datagrams: false,
-    streams: true,
-    fair: false,
-};
+fn one_by_one() -> Emit {
+    let mut what = CONTROL | STREAMS;
+    what.fair = false;
+    what
+}
 
 // A client and two of its payloads in flight.
 struct Sent {
@@ -35,7 +34,7 @@ fn sends(end: &mut StreamsState, what: Emit, bytes: &[u8]) -> Result<Token> {
 fn send_bytes(end: &mut StreamsState) -> Result<Vec<Token>> {
     let mut tokens = Vec::new();
     for (offset, byte) in (0u8..).zip(TEXT) {
-        assert_eq!(end.send_stream(StreamId(2)).write(&[*byte]), Ok(1));
+        assert_eq!(end.send_stream(stream_id(2)).write(&[*byte]), Ok(1));
         let frame = match offset {
             0 => vec![0x0a, 2, 1, *byte],
             _ => vec![0x0e, 2, offset, 1, *byte],
@@ -51,24 +50,24 @@ fn client_that_sent() -> Result<Sent> {
     let mut end = client(4, WINDOW, WINDOW)?;
     permit(&mut end, 4, 100, 50)?;
     for number in [2, 6, 10] {
-        assert_eq!(end.open(Dir::Uni)?, Some(StreamId(number)));
+        assert_eq!(end.open(Dir::Uni)?, Some(stream_id(number)));
     }
     let bytes = send_bytes(&mut end)?;
-    assert_eq!(end.send_stream(StreamId(6)).write(b"kl"), Ok(2));
-    end.send_stream(StreamId(6)).finish()?;
+    assert_eq!(end.send_stream(stream_id(6)).write(b"kl"), Ok(2));
+    end.send_stream(stream_id(6)).finish()?;
     let second = sends(&mut end, STREAMS, b"\x0b\x06\x02kl")?;
     end.retransmit_all_for_0rtt()?;
     let all = b"\x0a\x02\x0aabcdefghij\x0b\x06\x02kl";
     let whole = sends(&mut end, STREAMS, all)?;
-    assert_eq!(end.send_stream(StreamId(10)).write(b"m"), Ok(1));
-    end.send_stream(StreamId(10)).reset(7)?;
+    assert_eq!(end.send_stream(stream_id(10)).write(b"m"), Ok(1));
+    end.send_stream(stream_id(10)).reset(varint(7))?;
     for token in bytes.into_iter().step_by(2).chain([second]) {
         end.lost(token)?;
     }
     let part = b"\x04\x0a\x07\x01\
         \x0a\x02\x01a\x0e\x02\x02\x01c\x0e\x02\x04\x01e\x0e\x02\x06\x01g\x0e\x02\x08\x01i\
         \x0b\x06\x02kl";
-    let mixed = sends(&mut end, ONE_BY_ONE, part)?;
+    let mixed = sends(&mut end, one_by_one(), part)?;
     assert_eq!(end.poll(), None);
     Ok(Sent { end, whole, mixed })
 }
@@ -95,10 +94,10 @@ fn all_of_an_acknowledged_payload_is_kept_no_more() -> Result<()> {
         mixed,
     } = client_that_sent()?;
     end.acked(mixed)?;
-    let id = StreamId(6);
+    let id = stream_id(6);
     assert_eq!(end.poll(), Some(Event::Finished { id }));
     assert_eq!(end.poll(), None);
-    for id in [id, StreamId(10)] {
+    for id in [id, stream_id(10)] {
         let priority = end.send_stream(id).priority();
         assert_eq!(priority, Err(StreamError::ClosedStream));
     }
@@ -113,18 +112,16 @@ fn all_of_an_acknowledged_payload_is_kept_no_more() -> Result<()> {
 
 // A server that gave up its sides of four streams of the client.
 fn server_that_gave_up() -> Result<(StreamsState, Token)> {
-    let config = Config {
-        send_window: 1000,
-        ..config(16, WINDOW, WINDOW)
-    };
+    let mut config = config(16, WINDOW, WINDOW);
+    config.send_window = 1000;
     let mut end = StreamsState::new(Side::Server, &config)?;
     permit(&mut end, 4, 100, 50)?;
     for number in [0, 4, 8, 12] {
-        let id = StreamId(number);
+        let id = stream_id(number);
         end.on_stream(id, 0, b"", false, 0)?;
         assert_eq!(end.accept(Dir::Bi), Some(id));
-        end.send_stream(id).reset(7)?;
-        end.recv_stream(id).stop(9)?;
+        end.send_stream(id).reset(varint(7))?;
+        end.recv_stream(id).stop(varint(9))?;
     }
     let (payload, token) = emit(&mut end, 100, CONTROL)?.expect("resets are due");
     let frames = control_frames(&payload);

@@ -4,7 +4,7 @@ mod one_end;
 
 use one_end::steps::{read, take_in, Given, Last, Reads};
 use one_end::*;
-use quic_streams::{Dir, Event, ReadError, StreamId, StreamsState, Token, WriteError};
+use quic_streams::{Dir, Event, ReadError, StreamsState, Token, WriteError};
 
 // The sizes on both sides of each power of two up to 2^16.
 fn sizes() -> impl Iterator<Item = usize> {
@@ -15,11 +15,11 @@ fn sizes() -> impl Iterator<Item = usize> {
 fn pass_in(end: &mut StreamsState, offset: u64, size: usize) -> Result<()> {
     take_in(end, 3, offset, size, false)?;
     end.accept(Dir::Uni);
-    let mut stream = end.recv_stream(StreamId(3));
+    let mut stream = end.recv_stream(stream_id(3));
     let mut chunks = stream.chunks(true);
     let (mut bytes, mut last) = (Vec::new(), None);
     for _ in 0..3 {
-        match chunks.next(size.div_ceil(2)) {
+        match chunks.next((size + 1) / 2) {
             Ok(chunk) => bytes.extend(chunk.expect("the stream has no end").bytes),
             Err(error) => last = Some(error),
         }
@@ -46,7 +46,7 @@ fn every_size_is_taken_and_read() -> Result<()> {
 // Takes a stream of three bytes, and reads it byte by byte.
 fn pass_stream(end: &mut StreamsState, stream: u64) -> Result<()> {
     take_in(end, stream, 0, 3, true)?;
-    let id = StreamId(stream);
+    let id = stream_id(stream);
     assert_eq!(end.accept(Dir::Uni), Some(id));
     for offset in 0..3 {
         let mut byte = [0];
@@ -148,7 +148,7 @@ fn lose_and_ack(end: &mut StreamsState, mut flying: Vec<Flying>, part: Part) -> 
     for payload in flying {
         end.acked(payload.token)?;
     }
-    let id = StreamId(part.stream);
+    let id = stream_id(part.stream);
     assert_eq!(end.poll(), Some(Event::Finished { id }));
     assert_eq!(end.poll(), None);
     Ok(())
@@ -156,7 +156,7 @@ fn lose_and_ack(end: &mut StreamsState, mut flying: Vec<Flying>, part: Part) -> 
 
 // Opens a stream, writes so many bytes, and ends it; then all of it is sent, lost in part, and acknowledged.
 fn pass_out(end: &mut StreamsState, stream: u64, size: usize, max: usize) -> Result<()> {
-    let (content, id) = (pattern(0, size), StreamId(stream));
+    let (content, id) = (pattern(0, size), stream_id(stream));
     assert_eq!(end.open(Dir::Uni)?, Some(id));
     // A write of nothing would queue the stream as well.
     if size > 0 {
@@ -204,19 +204,19 @@ fn stop_code(index: u64) -> u64 {
 
 // Queues an entry of each of four kinds: for streams 0, 2 and 3, or those so many times 4 behind them.
 fn queue_entry(end: &mut StreamsState, index: u64) -> Result<()> {
-    let first = StreamId(4 * index);
+    let first = stream_id(4 * index);
     assert_eq!(end.open(Dir::Bi)?, Some(first));
     assert_eq!(end.send_stream(first).write(b"th"), Ok(1));
     let blocked = end.send_stream(first).write(b"i");
     assert_eq!(blocked, Err(WriteError::Blocked));
-    take_in(end, first.0, 0, WORTH_A_FRAME, false)?;
-    let Given(bytes, _, _) = read(end, first.0, true, Reads(WORTH_A_FRAME, 1))?;
+    take_in(end, first.into(), 0, WORTH_A_FRAME, false)?;
+    let Given(bytes, _, _) = read(end, first.into(), true, Reads(WORTH_A_FRAME, 1))?;
     assert_eq!(bytes, WORTH_A_FRAME);
-    let own = StreamId(4 * index + 2);
+    let own = stream_id(4 * index + 2);
     assert_eq!(end.open(Dir::Uni)?, Some(own));
-    end.send_stream(own).reset(reset_code(index))?;
-    let of_peer = StreamId(4 * index + 3);
-    end.recv_stream(of_peer).stop(stop_code(index))?;
+    end.send_stream(own).reset(varint(reset_code(index)))?;
+    let of_peer = stream_id(4 * index + 3);
+    end.recv_stream(of_peer).stop(varint(stop_code(index)))?;
     Ok(())
 }
 
@@ -227,7 +227,7 @@ fn with_entries(count: u64) -> Result<StreamsState> {
     // A stream of the peer opens all below it.
     take_in(&mut end, 4 * count - 1, 0, 0, false)?;
     for index in 0..count {
-        assert_eq!(end.accept(Dir::Uni), Some(StreamId(4 * index + 3)));
+        assert_eq!(end.accept(Dir::Uni), Some(stream_id(4 * index + 3)));
         queue_entry(&mut end, index)?;
     }
     Ok(end)

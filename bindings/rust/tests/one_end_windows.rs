@@ -3,8 +3,11 @@
 mod one_end;
 
 use one_end::steps::*;
-use one_end::{client, config, control_frames, emit, Result, CONTROL, GREATEST, MAX_DATA, WINDOW};
-use quic_streams::{Config, Dir, StreamId, StreamsState};
+use one_end::{
+    client, config, control_frames, emit, stream_id, varint, Result, CONTROL, GREATEST, MAX_DATA,
+    WINDOW,
+};
+use quic_streams::{Dir, StreamsState};
 
 // The 128th stream of the peer, and the one above it.
 const LAST_STREAM: [Step; 2] = [
@@ -60,7 +63,7 @@ fn pass(end: &mut StreamsState, count: usize) -> Result<()> {
     take_in(end, 3, offset, count, false)?;
     end.accept(Dir::Uni);
     let mut bytes = vec![0; count];
-    let read = end.recv_stream(StreamId(3)).read_into(&mut bytes, true)?;
+    let read = end.recv_stream(stream_id(3)).read_into(&mut bytes, true)?;
     assert_eq!(read, Some((count, offset)));
     Ok(())
 }
@@ -83,7 +86,7 @@ fn credit(end: &mut StreamsState) -> u64 {
 fn is_doubled() -> Result<()> {
     for (read, limit) in [(0, 2 * WINDOW), (1024, 2 * WINDOW + 1024)] {
         let mut end = wide_client()?;
-        end.set_receive_window(2 * WINDOW)?;
+        end.set_receive_window(varint(2 * WINDOW));
         assert!(end.due().control);
         assert_eq!(credit(&mut end), WINDOW);
         if read > 0 {
@@ -106,7 +109,7 @@ const SMALLER: [(usize, u64, Option<u64>); 4] = [
 
 fn is_halved() -> Result<()> {
     let mut end = wide_client()?;
-    end.set_receive_window(WINDOW / 2)?;
+    end.set_receive_window(varint(WINDOW / 2));
     assert!(!end.due().control);
     for (read, given, limit) in SMALLER {
         pass(&mut end, read)?;
@@ -129,9 +132,7 @@ const READ_ALL: [Step; 2] = [
 
 #[test]
 fn nothing_is_told_above_the_greatest_limit() -> Result<()> {
-    let config = Config {
-        send_window: 0,
-        ..config(4, GREATEST, GREATEST)
-    };
+    let mut config = config(4, GREATEST, GREATEST);
+    config.send_window = 0;
     run(&config, &READ_ALL)
 }

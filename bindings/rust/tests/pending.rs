@@ -3,7 +3,7 @@
 mod one_end;
 
 use one_end::*;
-use quic_streams::{Dir, StreamId, StreamsState, Token};
+use quic_streams::{Dir, StreamsState, Token};
 
 const MAX_STREAMS_BIDI: u64 = 0x12;
 
@@ -12,14 +12,14 @@ fn client_of_two() -> Result<StreamsState> {
     let mut end = client(1, WINDOW, 8)?;
     permit(&mut end, 2, WINDOW, WINDOW)?;
     for stream in [0, 4] {
-        assert_eq!(end.open(Dir::Bi)?, Some(StreamId(stream)));
+        assert_eq!(end.open(Dir::Bi)?, Some(stream_id(stream)));
     }
     Ok(end)
 }
 
 /// Takes a byte of a stream and reads it.
 fn pass(end: &mut StreamsState, stream: u64, offset: u64) -> Result<()> {
-    let id = StreamId(stream);
+    let id = stream_id(stream);
     end.on_stream(id, offset, b"x", false, 1)?;
     let read = end.recv_stream(id).read_into(&mut [0], true)?;
     assert_eq!(read, Some((1, offset)));
@@ -40,10 +40,10 @@ fn sends(end: &mut StreamsState, wanted: &[&[u64]]) -> Result<Token> {
 #[test]
 fn lists_go_behind_and_sets_are_united() -> Result<()> {
     let mut end = client_of_two()?;
-    end.send_stream(StreamId(4)).reset(1)?;
+    end.send_stream(stream_id(4)).reset(varint(1))?;
     pass(&mut end, 0, 0)?;
     pass(&mut end, 4, 0)?;
-    end.set_max_concurrent(Dir::Uni, 3)?;
+    end.set_max_concurrent(Dir::Uni, varint(3))?;
     let lost = [
         &[RESET_STREAM, 4, 1, 0][..],
         &[MAX_STREAM_DATA, 0, 9],
@@ -51,9 +51,9 @@ fn lists_go_behind_and_sets_are_united() -> Result<()> {
         &[MAX_STREAMS_UNI, 3],
     ];
     let lost = sends(&mut end, &lost)?;
-    end.send_stream(StreamId(0)).reset(7)?;
+    end.send_stream(stream_id(0)).reset(varint(7))?;
     pass(&mut end, 0, 1)?;
-    end.set_max_concurrent(Dir::Bi, 2)?;
+    end.set_max_concurrent(Dir::Bi, varint(2))?;
     end.lost(lost)?;
     let all = [
         &[RESET_STREAM, 4, 1, 0][..],

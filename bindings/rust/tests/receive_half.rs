@@ -6,7 +6,7 @@ use one_end::steps::*;
 use one_end::*;
 use quic_streams::{Config, Dir, ReadError, StreamError, StreamId, StreamsState};
 
-const ID: StreamId = StreamId(3);
+const ID: StreamId = stream_id(3);
 
 /// INTERNAL_ERROR (RFC 9000 section 20.1).
 const INTERNAL: Answer = Err(1);
@@ -102,7 +102,7 @@ fn a_stopped_half_counts_without_storing() -> Result<()> {
     end.accept(Dir::Uni);
     assert_eq!(counted(&mut end, 1024), (0, 6));
     assert!(!end.due().control);
-    end.recv_stream(ID).stop(9)?;
+    end.recv_stream(ID).stop(varint(9))?;
     assert_eq!(counted(&mut end, 1024), (6, 6));
     // The limit of the stream is announced neither now nor later.
     let frames = joined(&emit_all(&mut end, 1200, CONTROL)?);
@@ -113,7 +113,7 @@ fn a_stopped_half_counts_without_storing() -> Result<()> {
     assert_eq!(counted(&mut end, 1024), (8, 8));
     assert!(!end.due().control);
     let mut stream = end.recv_stream(ID);
-    assert_eq!(stream.stop(9), Err(StreamError::ClosedStream));
+    assert_eq!(stream.stop(varint(9)), Err(StreamError::ClosedStream));
     assert_eq!(stream.read(&mut [0; 4]), Err(ReadError::ClosedStream));
     Ok(())
 }

@@ -3,7 +3,7 @@
 mod sending;
 
 use quic_streams::{Dir, FinishError, Side, WriteError};
-use sending::{finished, stopped, writable, End, Result};
+use sending::{finished, stopped, varint, writable, End, Result};
 
 // The greatest limit of a peer (RFC 9000 section 16).
 const GREATEST: u64 = (1 << 62) - 1;
@@ -51,8 +51,8 @@ fn the_first_stop_counts() -> Result<()> {
     assert_eq!(end.poll(), stopped(2, 7));
     assert_eq!(end.stop_sending(2, 8), Ok(()));
     assert_eq!(end.poll(), None);
-    assert_eq!(end.put(2, b"abc"), Err(WriteError::Stopped(7)));
-    assert_eq!(end.finish(2), Err(FinishError::Stopped(7)));
+    assert_eq!(end.put(2, b"abc"), Err(WriteError::Stopped(varint(7))));
+    assert_eq!(end.finish(2), Err(FinishError::Stopped(varint(7))));
     Ok(())
 }
 

@@ -4,8 +4,8 @@ mod sending;
 
 use quic_streams::{Dir, Side, StreamError, WriteError};
 use sending::{
-    opened, readable, writable, End, Result, ONE_FRAME, STREAM_LIMIT_ERROR, STREAM_STATE_ERROR,
-    WINDOW,
+    opened, readable, varint, writable, End, Result, ONE_FRAME, STREAM_LIMIT_ERROR,
+    STREAM_STATE_ERROR, WINDOW,
 };
 
 #[test]
@@ -15,7 +15,7 @@ fn counts_of_streams_are_announced_anew() -> Result<()> {
     // A frame that changes nothing: what is due is queued after it.
     assert_eq!(end.max_data(0), Ok(()));
     assert_eq!(end.controls(100)?, []);
-    end.0.set_max_concurrent(Dir::Uni, 3)?;
+    end.0.set_max_concurrent(Dir::Uni, varint(3))?;
     assert_eq!(end.controls(100)?, [0x13, 3]);
     end.0.zero_rtt_rejected();
     assert_eq!(end.max_data(0), Ok(()));

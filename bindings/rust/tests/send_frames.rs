@@ -3,7 +3,7 @@
 mod sending;
 
 use quic_streams::{Dir, Side, WriteError};
-use sending::{End, Result};
+use sending::{varint, End, Result};
 
 // The client is held back on its streams 2 and 6, and gives the first one up.
 fn send_and_reset(end: &mut End) -> Result<()> {
@@ -41,8 +41,8 @@ fn stop_and_read(end: &mut End) -> Result<()> {
 #[test]
 fn kinds_come_in_their_order_and_the_useless_is_dropped() -> Result<()> {
     let mut end = End::new(Side::Client, 3, 8, 8)?;
-    end.0.set_max_concurrent(Dir::Uni, 4)?;
-    end.0.set_max_concurrent(Dir::Bi, 4)?;
+    end.0.set_max_concurrent(Dir::Uni, varint(4))?;
+    end.0.set_max_concurrent(Dir::Bi, varint(4))?;
     send_and_reset(&mut end)?;
     stop_and_read(&mut end)?;
     let wanted = [

@@ -3,7 +3,7 @@
 mod sending;
 
 use quic_streams::{Dir, Side, StreamError, WriteError};
-use sending::{available, opened, writable, End, Result, ONE_FRAME, WINDOW};
+use sending::{available, opened, varint, writable, End, Result, ONE_FRAME, WINDOW};
 
 const BLOCKED: std::result::Result<usize, WriteError> = Err(WriteError::Blocked);
 
@@ -273,7 +273,7 @@ fn many_streams_wait_and_are_told() -> Result<()> {
 fn streams_of_the_peer_are_permitted() -> Result<()> {
     let mut end = End::new(Side::Server, 3, WINDOW, WINDOW)?;
     end.permit(0, 100, 9)?;
-    end.0.set_max_concurrent(Dir::Bi, 4)?;
+    end.0.set_max_concurrent(Dir::Bi, varint(4))?;
     assert_eq!(end.controls(100)?, [0x12, 4]); // MAX_STREAMS
     assert_eq!(end.data(12, 1), Ok(()));
     for stream in [0, 4, 8, 12] {

@@ -3,7 +3,7 @@
 mod sending;
 
 use quic_streams::{Dir, Side, WriteError};
-use sending::{writable, End, Result, FRAME_ENCODING_ERROR, STREAM_LIMIT_ERROR, WINDOW};
+use sending::{varint, writable, End, Result, FRAME_ENCODING_ERROR, STREAM_LIMIT_ERROR, WINDOW};
 
 const BLOCKED: std::result::Result<usize, WriteError> = Err(WriteError::Blocked);
 
@@ -63,18 +63,18 @@ fn the_peer_opens_as_many_as_it_may() -> Result<()> {
     let mut end = client(1, 42, 42)?;
     assert_eq!(end.info().remote_open_uni, 0);
     assert_eq!(end.data(7, 1), Err(STREAM_LIMIT_ERROR));
-    end.0.set_max_concurrent(Dir::Uni, 3)?;
+    end.0.set_max_concurrent(Dir::Uni, varint(3))?;
     assert_eq!(end.controls(100)?, [0x13, 3]); // MAX_STREAMS
     assert_eq!(end.data(7, 1), Ok(()));
     assert_eq!(end.data(11, 1), Ok(()));
     assert_eq!(end.info().remote_open_uni, 3);
     assert_eq!(end.data(15, 1), Err(STREAM_LIMIT_ERROR));
     // A lower count takes nothing back.
-    end.0.set_max_concurrent(Dir::Uni, 1)?;
+    end.0.set_max_concurrent(Dir::Uni, varint(1))?;
     assert_eq!(end.controls(100)?, []);
     assert_eq!(end.data(11, 1), Ok(()));
     assert_eq!(end.data(15, 1), Err(STREAM_LIMIT_ERROR));
-    end.0.set_max_concurrent(Dir::Bi, 2)?;
+    end.0.set_max_concurrent(Dir::Bi, varint(2))?;
     assert_eq!(end.controls(100)?, [0x12, 2]); // MAX_STREAMS
     assert_eq!(end.data(5, 1), Ok(()));
     assert_eq!(end.data(9, 1), Err(STREAM_LIMIT_ERROR));

@@ -1,15 +1,17 @@
 //! What lack of memory leaves as it was, and that the same call then succeeds. Each session runs once with ample memory, and
 //! once more with each allocation of the library refused.
 
+// The tests need a newer Rust than the crate.
+#![allow(clippy::incompatible_msrv)]
 // The allocator stands on the one of glibc.
 #![cfg(all(target_os = "linux", target_env = "gnu"))]
 
 mod sending;
 
-use quic_streams::{Dir, Due, Emit, Info, Side, StreamError, StreamId, Token, WriteError};
+use quic_streams::{Dir, Due, Emit, Info, Side, StreamError, Token, WriteError};
 use sending::{
-    available, finished, readable, stopped, writable, End, Result, CONTROL, ONE_FRAME, STREAMS,
-    TEXT, WINDOW,
+    available, finished, readable, stopped, stream_id, varint, writable, End, Result, CONTROL,
+    ONE_FRAME, STREAMS, TEXT, WINDOW,
 };
 use std::fmt::Display;
 use std::result;
@@ -183,8 +185,10 @@ fn client_that_opened() -> Result<End> {
     assert!(!end.is_unopened(14));
     assert!(end.is_unopened(18));
     // Halves that nothing touched yet.
-    make(&mut end, |end| end.0.on_max_stream_data(StreamId(0), 4))?;
-    make(&mut end, |end| end.0.on_stop_sending(StreamId(10), 1))?;
+    make(&mut end, |end| end.0.on_max_stream_data(stream_id(0), 4))?;
+    make(&mut end, |end| {
+        end.0.on_stop_sending(stream_id(10), varint(1))
+    })?;
     assert_eq!(end.poll(), stopped(10, 1));
     assert_eq!(end.poll(), None);
     make(&mut end, |end| end.set_priority(6, 5))?;
@@ -206,12 +210,12 @@ fn write_up_to_the_limit(end: &mut End) -> Result<()> {
     let blocked = make(end, |end| end.write(0, 1));
     assert_eq!(blocked, Err(WriteError::Blocked));
     assert_eq!(end.due()?, [0x14, 10, 0x15, 2, 4]); // DATA_BLOCKED too
-    make(end, |end| end.0.on_max_data(20))?;
+    make(end, |end| end.0.on_max_data(varint(20)))?;
     assert_eq!(end.due()?, [0x15, 2, 4]);
     assert_eq!(end.write_limit(), 10);
     assert_eq!(end.poll(), writable(0));
     assert_eq!(end.poll(), None);
-    make(end, |end| end.0.on_max_stream_data(StreamId(2), 8))?;
+    make(end, |end| end.0.on_max_stream_data(stream_id(2), 8))?;
     assert_eq!(end.poll(), writable(2));
     assert_eq!(end.due()?, []);
     make(end, |end| end.finish(6))?;
@@ -220,18 +224,18 @@ fn write_up_to_the_limit(end: &mut End) -> Result<()> {
 
 // The client permits its peer more: streams, bytes in all, and bytes on a stream that it reads.
 fn permit_more(end: &mut End) -> Result<()> {
-    make(end, |end| end.0.set_max_concurrent(Dir::Uni, 40))?;
-    make(end, |end| end.0.set_max_concurrent(Dir::Bi, 30))?;
+    make(end, |end| end.0.set_max_concurrent(Dir::Uni, varint(40)))?;
+    make(end, |end| end.0.set_max_concurrent(Dir::Bi, varint(30)))?;
     let info = end.info();
     assert_eq!((info.remote_open_bi, info.remote_open_uni), (0, 0));
-    make(end, |end| end.0.set_receive_window(WINDOW + 8))?;
+    end.0.set_receive_window(varint(WINDOW + 8));
     assert_eq!(end.info().local_max_data, WINDOW + 8);
     let bytes = &TEXT[..8];
-    make(end, |end| end.0.on_stream(StreamId(0), 0, bytes, false, 8))?;
+    make(end, |end| end.0.on_stream(stream_id(0), 0, bytes, false, 8))?;
     assert_eq!(end.poll(), readable(0));
     let mut read = [0; 8];
     let count = make(end, |end| {
-        let mut stream = end.0.recv_stream(StreamId(0));
+        let mut stream = end.0.recv_stream(stream_id(0));
         stream.read(&mut read)
     });
     assert_eq!(count, Ok(Some(8)));
@@ -280,7 +284,9 @@ fn refused_calls() -> Result<()> {
     permit_more(&mut end)?;
     send_and_ack(&mut end)?;
     assert_eq!(end.write_limit(), 8);
-    make(&mut end, |end| end.0.on_stop_sending(StreamId(2), 7))?;
+    make(&mut end, |end| {
+        end.0.on_stop_sending(stream_id(2), varint(7))
+    })?;
     assert_eq!(end.poll(), stopped(2, 7));
     assert_eq!(end.stop_code(2), Ok(Some(7)));
     make(&mut end, |end| end.reset(2, 7))?;
@@ -308,7 +314,7 @@ fn client_with_entries() -> Result<(End, Vec<Vec<u8>>)> {
     for number in 0..9 {
         let (bi, uni) = (4 * number + 1, 4 * number + 3);
         for (dir, stream) in [(Dir::Bi, bi), (Dir::Uni, uni)] {
-            let id = StreamId(stream);
+            let id = stream_id(stream);
             make(&mut end, |end| end.0.on_stream(id, 0, b"x", false, 1))?;
             assert_eq!(end.accept(dir), Some(stream));
         }
@@ -316,7 +322,7 @@ fn client_with_entries() -> Result<(End, Vec<Vec<u8>>)> {
         make(&mut end, |end| end.stop(uni, code))?;
         frames.push(vec![0x05, uni as u8, code as u8]); // STOP_SENDING
         let read = make(&mut end, |end| {
-            end.0.recv_stream(StreamId(bi)).read(&mut [0])
+            end.0.recv_stream(stream_id(bi)).read(&mut [0])
         });
         assert_eq!(read, Ok(Some(1)));
         frames.push(vec![0x11, bi as u8, 9]); // MAX_STREAM_DATA
@@ -357,7 +363,7 @@ fn refused_end_and_reset() -> Result<()> {
     assert_eq!(blocked, Err(WriteError::Blocked));
     make(&mut end, |end| end.finish(0))?;
     make(&mut end, |end| end.reset(0, 1))?;
-    make(&mut end, |end| end.0.on_max_data((1 << 62) - 1))?;
+    make(&mut end, |end| end.0.on_max_data(varint((1 << 62) - 1)))?;
     send(&mut end, CONTROL, 100, &[&[0x04, 0, 1, 4]]); // RESET_STREAM
     Ok(())
 }
@@ -405,7 +411,7 @@ fn refused_limits_of_streams() -> Result<()> {
     let mut end = client_at_its_limits()?;
     give_limits(&mut end, 0, 8)?;
     assert_eq!(end.poll(), None);
-    make(&mut end, |end| end.0.on_max_data(9))?;
+    make(&mut end, |end| end.0.on_max_data(varint(9)))?;
     for stream in [6, 2, 0] {
         assert_eq!(end.poll(), writable(stream));
     }

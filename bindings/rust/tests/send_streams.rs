@@ -31,7 +31,7 @@ fn frames_open_streams_of_the_peer() -> Result<()> {
 #[test]
 fn a_stop_opens_a_stream_of_the_peer() -> Result<()> {
     let mut end = End::with_limits(Side::Client, 1, 42, 42)?;
-    assert_eq!(end.stop_sending(5, 1), Ok(()));
+    assert_eq!(end.stop_sending(5, 1), Err(STREAM_LIMIT_ERROR));
     assert_eq!(end.stop_sending(2, 1), Err(STREAM_STATE_ERROR));
     assert_eq!(end.poll(), None);
     assert_eq!(end.stop_sending(1, 1), Ok(()));

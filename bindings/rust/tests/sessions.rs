@@ -2,46 +2,40 @@
 
 mod common;
 
-use common::{events, frames, Result};
+use common::{config, events, frames, stream_id, varint, Result};
 use quic_streams::{
-    sys, Config, Dir, Emit, Event, Limits, Next, SettleError, Side, StreamError, StreamId,
+    Dir, Emit, Event, Limits, Next, Received, SettleError, Side, StreamError, StreamId,
     StreamsState, Token,
 };
+use quic_streams_sys as sys;
 use std::mem::size_of;
-use std::ptr::null_mut;
 
 /// The first unidirectional stream of a client (RFC 9000 section 2.1).
-const FIRST: StreamId = StreamId(2);
+const FIRST: StreamId = stream_id(2);
 
 const UNKNOWN: Result<(), SettleError> = Err(SettleError::UnknownToken);
 
 /// A session that permits four streams of each direction and 1000 bytes, and is permitted as much.
 fn session(side: Side) -> Result<StreamsState> {
-    let config = Config {
-        max_remote_uni: 4,
-        max_remote_bi: 4,
-        send_window: 1000,
-        receive_window: 1000,
-        stream_window: 1000,
-        datagram_receive: Some(1000),
-        datagram_send: 1000,
-    };
+    let mut config = config(4, 1000, 1000);
+    config.send_window = 1000;
+    config.datagram_receive = Some(1000);
+    config.datagram_send = 1000;
     let mut made = StreamsState::new(side, &config)?;
-    made.set_params(&Limits {
-        max_datagram: Some(200),
-        ..Limits::of(&config)
-    })?;
+    let mut limits = Limits::of(&config);
+    limits.max_datagram = Some(200);
+    made.set_params(&limits)?;
     Ok(made)
 }
 
 /// A server by the calls of the header, which tell how many frames were taken, and how long a datagram is.
-struct RawServer(sys::Conn);
+struct RawServer(sys::qs_conn);
 
 impl RawServer {
     fn new() -> Self {
-        let config = sys::Config {
-            size: size_of::<sys::Config>() as u32,
-            side: 1,
+        let config = sys::qs_config {
+            size: size_of::<sys::qs_config>() as u32,
+            side: sys::QS_SERVER,
             max_remote_uni: 4,
             max_remote_bidi: 4,
             send_window: 1000,
@@ -50,21 +44,18 @@ impl RawServer {
             datagram_receive: 1000,
             datagram_send: 1000,
         };
-        let mut server = RawServer(sys::Conn {
-            live: 0,
-            at: null_mut(),
-        });
+        let mut server = RawServer(sys::qs_conn::ZERO);
         let answer = unsafe { sys::qs_conn_open(&mut server.0, &config) };
-        assert_eq!(answer, sys::OK);
+        assert_eq!(answer, sys::QS_OK);
         server
     }
 
-    /// Takes a whole payload. The answer is the place of the first frame that was not taken.
+    /// Takes a whole payload. The answer is the offset of the first byte that was not taken.
     fn receive(&mut self, payload: &[u8]) -> usize {
-        let (mut next, mut error) = (0, sys::Error::none());
+        let (mut next, mut error) = (0, sys::qs_error::ZERO);
         let (at, len) = (payload.as_ptr(), payload.len());
         let answer = unsafe { sys::qs_receive(&mut self.0, at, len, &mut next, &mut error) };
-        assert_eq!(answer, sys::OK);
+        assert_eq!(answer, sys::QS_OK);
         next
     }
 
@@ -92,8 +83,8 @@ fn bytes_come_and_are_settled_once() -> Result<()> {
     let mut out = [0; 100];
     let sent = a.emit(&mut out, Emit::default())?.unwrap();
     assert_eq!(a.emit(&mut [0; 100], Emit::default())?, None);
-    b.receive(&out[..sent.len])?;
-    assert_eq!(RawServer::new().receive(&out[..sent.len]), 1);
+    assert_eq!(b.receive(&out[..sent.len])?, Received::All);
+    assert_eq!(RawServer::new().receive(&out[..sent.len]), sent.len);
     assert_eq!(b.poll(), Some(Event::Opened { dir: Dir::Uni }));
     assert_eq!(b.accept(Dir::Uni), Some(FIRST));
     let chunk = b.recv_stream(FIRST).chunks(true).next(100)?.unwrap();
@@ -114,7 +105,7 @@ fn one_read_gives_the_bytes_and_the_end() -> Result<()> {
     assert_eq!(a.open(Dir::Uni)?, Some(FIRST));
     a.send_stream(FIRST).write(b"hello")?;
     a.send_stream(FIRST).finish()?;
-    b.receive(&frames(&mut a, Emit::default())?)?;
+    assert_eq!(b.receive(&frames(&mut a, Emit::default())?)?, Received::All);
     assert_eq!(b.accept(Dir::Uni), Some(FIRST));
     // Room for two pieces: the bytes come as one, and the end is told by the second read.
     let mut buffer = [0; 2 * 2048];
@@ -172,28 +163,28 @@ fn datagrams_stand_before_data() -> Result<()> {
     let sent = a.emit(&mut out, Emit::default())?.unwrap();
     // DATAGRAM with a length (RFC 9221 section 4).
     assert_eq!(out[0], 0x31);
-    b.receive(&out[..sent.len])?;
+    assert_eq!(b.receive(&out[..sent.len])?, Received::All);
     let told = [Event::DatagramReceived, Event::Opened { dir: Dir::Uni }];
     assert_eq!(events(&mut b), told);
     assert_eq!(b.recv_datagram().as_deref(), Some(&b"news"[..]));
     assert_eq!(b.recv_datagram(), None);
 
     let (mut raw, mut news) = (RawServer::new(), [0; 4]);
-    assert_eq!(raw.receive(&out[..sent.len]), 2);
-    assert_eq!(raw.datagram(&mut []), (sys::TOO_SMALL, 4));
-    assert_eq!(raw.datagram(&mut news), (sys::OK, 4));
+    assert_eq!(raw.receive(&out[..sent.len]), sent.len);
+    assert_eq!(raw.datagram(&mut []), (sys::QS_ERR_TOO_SMALL, 4));
+    assert_eq!(raw.datagram(&mut news), (sys::QS_OK, 4));
     assert_eq!(&news, b"news");
-    assert_eq!(raw.datagram(&mut news), (sys::DONE, 0));
+    assert_eq!(raw.datagram(&mut news), (sys::QS_DONE, 0));
     Ok(())
 }
 
 #[test]
 fn a_stream_that_was_not_given_is_closed() -> Result<()> {
     let mut a = session(Side::Client)?;
-    let unknown = StreamId(1);
+    let unknown = stream_id(1);
     let closed = Err(StreamError::ClosedStream);
-    assert_eq!(a.send_stream(unknown).reset(7), closed);
-    assert_eq!(a.recv_stream(unknown).stop(7), closed);
+    assert_eq!(a.send_stream(unknown).reset(varint(7)), closed);
+    assert_eq!(a.recv_stream(unknown).stop(varint(7)), closed);
     a.close();
     assert_eq!(a.open(Dir::Bi)?, None);
     Ok(())

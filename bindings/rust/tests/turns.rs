@@ -2,8 +2,10 @@
 
 mod one_end;
 
-use one_end::{client, emit, emit_all, joined, permit, put_number, Result, STREAMS, WINDOW};
-use quic_streams::{Dir, Emit, StreamId, StreamsState};
+use one_end::{
+    client, emit, emit_all, joined, permit, put_number, varint, Result, STREAMS, WINDOW,
+};
+use quic_streams::{Dir, StreamId, StreamsState};
 use std::cmp::Reverse;
 
 /// How many streams there are where many are tried.
@@ -31,7 +33,7 @@ fn queue(end: &mut StreamsState, priority: i32) -> Result<StreamId> {
 /// A STREAM frame of so many bytes at an offset, with a length or up to the end of its payload (RFC 9000 section 19.8).
 fn frame(id: StreamId, offset: usize, count: usize, has_length: bool) -> Vec<u8> {
     let mut bytes = vec![0x08 | u8::from(offset > 0) << 2 | u8::from(has_length) << 1];
-    put_number(&mut bytes, id.0);
+    put_number(&mut bytes, id.into());
     if offset > 0 {
         put_number(&mut bytes, offset as u64);
     }
@@ -144,8 +146,10 @@ struct Subject {
 impl Subject {
     /// The next payload is this one; none where it has no bytes.
     fn sends(&mut self, max_size: usize, fair: bool, wanted: &[u8]) -> Result<()> {
-        let payload = emit(&mut self.end, max_size, Emit { fair, ..STREAMS })?;
-        assert_eq!(payload.unzip().0.unwrap_or_default(), wanted);
+        let mut what = STREAMS;
+        what.fair = fair;
+        let payload = emit(&mut self.end, max_size, what)?;
+        assert_eq!(payload.map(|(bytes, _)| bytes).unwrap_or_default(), wanted);
         Ok(())
     }
 
@@ -202,7 +206,7 @@ impl Subject {
         if let Some(entry) = self.list.take_first() {
             let stream = &mut self.streams[entry.place];
             stream.is_reset = true;
-            self.end.send_stream(stream.id).reset(7)?;
+            self.end.send_stream(stream.id).reset(varint(7))?;
         }
         Ok(())
     }

@@ -8,8 +8,8 @@
 //! control or authentication: no way to send files over a real network. The program of `examples/c` speaks the same.
 
 use quic_streams::{
-    Config, Dir, Emit, Event, Limits, ReadError, ReceiveError, Side, StreamId, StreamsState, Token,
-    WriteError,
+    Config, Dir, Emit, Event, FinishError, Limits, ReadError, ReceiveError, Received, Side,
+    StreamId, StreamsState, Token, VarInt, WriteError,
 };
 use std::collections::BTreeMap;
 use std::error::Error;
@@ -108,20 +108,22 @@ impl End {
                     self.streams.acked(packet.token)?;
                 }
             }
-            b'D' => match self.streams.receive(payload) {
+            b'D' if !payload.is_empty() => match self.streams.receive(payload) {
                 // As if it had not come: the peer sends it again.
                 Err(ReceiveError::OutOfMemory(_)) => {}
-                answer => {
-                    answer?;
-                    self.send_packet(b'A', number, &mut [0; HEADER])?;
-                }
+                answer => match answer? {
+                    Received::All => self.send_packet(b'A', number, &mut [0; HEADER])?,
+                    Received::OtherFrame { .. } => {
+                        return Err("the peer sent a frame that this program does not have".into())
+                    }
+                },
             },
             _ => {}
         }
         Ok(())
     }
 
-    /// Writes the file until the stream is blocked; an event tells when it is not.
+    /// Writes the file until the stream is blocked or stopped: an event follows.
     fn write_file(&mut self) -> Result<()> {
         let Some(id) = self.stream else {
             return Ok(());
@@ -132,12 +134,15 @@ impl End {
                 let count = self.file.read(&mut self.chunk)?;
                 self.chunk.truncate(count);
                 if count == 0 {
-                    return Ok(self.streams.send_stream(id).finish()?);
+                    return match self.streams.send_stream(id).finish() {
+                        Err(FinishError::Stopped(_)) => Ok(()),
+                        finished => Ok(finished?),
+                    };
                 }
             }
             match self.streams.send_stream(id).write(&self.chunk) {
                 Ok(count) => drop(self.chunk.drain(..count)),
-                Err(WriteError::Blocked) => return Ok(()),
+                Err(WriteError::Blocked | WriteError::Stopped(_)) => return Ok(()),
                 Err(error) => return Err(error.into()),
             }
         }
@@ -169,6 +174,12 @@ impl End {
                 Event::Readable { id } => self.read_file(id)?,
                 Event::Writable { .. } => self.write_file()?,
                 Event::Finished { .. } => self.done = true,
+                // The receiver wants no more, and learns how much there was.
+                Event::Stopped { id, error_code } => {
+                    self.streams.send_stream(id).reset(error_code)?;
+                    self.send_due()?;
+                    return Err("the receiver wants no more".into());
+                }
                 _ => {}
             }
         }
@@ -177,15 +188,11 @@ impl End {
 }
 
 fn open_end(sends: bool, port: u16, file: File, loss: u64, seed: u64) -> Result<End> {
-    let config = Config {
-        max_remote_uni: 4,
-        max_remote_bi: 4,
-        send_window: 1 << 20,
-        receive_window: 1 << 20,
-        stream_window: 1 << 18,
-        datagram_receive: None,
-        datagram_send: 0,
-    };
+    let mut config = Config::default();
+    config.send_window = 1 << 20;
+    config.receive_window = VarInt::from_u32(1 << 20);
+    config.stream_window = VarInt::from_u32(1 << 18);
+    config.datagram_receive = None;
     let side = if sends { Side::Client } else { Side::Server };
     let mut streams = StreamsState::new(side, &config)?;
     streams.set_params(&Limits::of(&config))?;

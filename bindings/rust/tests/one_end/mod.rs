@@ -6,8 +6,8 @@
 mod common;
 pub mod steps;
 
-pub use common::{config, events, Result, CONTROL, STREAMS, WINDOW};
-use quic_streams::{Emit, Limits, Side, StreamsState, Token};
+pub use common::{config, events, limits, stream_id, varint, Result, CONTROL, STREAMS, WINDOW};
+use quic_streams::{Emit, Side, StreamsState, Token};
 
 /// The greatest number of a frame (RFC 9000 section 16).
 pub const GREATEST: u64 = (1 << 62) - 1;
@@ -28,15 +28,7 @@ pub fn client(streams: u64, window: u64, stream_window: u64) -> Result<StreamsSt
 
 /// The peer permits so many streams of each direction, and so many bytes in all and on each stream.
 pub fn permit(end: &mut StreamsState, streams: u64, data: u64, stream_data: u64) -> Result<()> {
-    end.set_params(&Limits {
-        initial_max_data: data,
-        initial_max_streams_bidi: streams,
-        initial_max_streams_uni: streams,
-        initial_max_stream_data_uni: stream_data,
-        initial_max_stream_data_bidi_local: stream_data,
-        initial_max_stream_data_bidi_remote: stream_data,
-        max_datagram: None,
-    })?;
+    end.set_params(&limits(streams, data, stream_data))?;
     Ok(())
 }
 

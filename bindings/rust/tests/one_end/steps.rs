@@ -1,7 +1,7 @@
 //! Steps on the receiving side of a client, and what each has to answer.
 
-use super::{control_frames, emit_all, pattern, Result, CONTROL, MAX_DATA};
-use quic_streams::{Config, Dir, ReadError, ReceiveError, Side, StreamId, StreamsState};
+use super::{control_frames, emit_all, pattern, stream_id, varint, Result, CONTROL, MAX_DATA};
+use quic_streams::{Config, Dir, ReadError, ReceiveError, Side, StreamsState};
 
 /// Whether a frame was taken, or the code of the error (RFC 9000 section 20.1).
 pub type Answer = std::result::Result<(), u64>;
@@ -59,7 +59,7 @@ const STOP_CODE: u64 = 9;
 pub fn answer_of(taken: std::result::Result<(), ReceiveError>) -> Result<Answer> {
     match taken {
         Ok(()) => Ok(TAKEN),
-        Err(ReceiveError::Transport(error)) => Ok(Err(error.code)),
+        Err(ReceiveError::Transport(error)) => Ok(Err(error.code.into())),
         Err(error) => Err(error.into()),
     }
 }
@@ -73,7 +73,7 @@ pub fn hand_in(
     fin: bool,
 ) -> Result<Answer> {
     let bytes = pattern(offset, count);
-    answer_of(end.on_stream(StreamId(stream), offset, &bytes, fin, count))
+    answer_of(end.on_stream(stream_id(stream), offset, &bytes, fin, count))
 }
 
 /// Hands in such a frame, which is taken, and after which nothing more waits to be sent than before.
@@ -147,7 +147,7 @@ impl Subject {
     fn new(config: &Config) -> Result<Self> {
         Ok(Subject {
             end: StreamsState::new(Side::Client, config)?,
-            window: config.receive_window,
+            window: config.receive_window.into(),
             opened_bi: 0,
             opened_uni: 0,
         })
@@ -155,11 +155,11 @@ impl Subject {
 
     fn accept(&mut self) {
         while let Some(id) = self.end.accept(Dir::Bi) {
-            assert_eq!(id, StreamId(self.opened_bi << 2 | 1));
+            assert_eq!(id, stream_id(self.opened_bi << 2 | 1));
             self.opened_bi += 1;
         }
         while let Some(id) = self.end.accept(Dir::Uni) {
-            assert_eq!(id, StreamId(self.opened_uni << 2 | 3));
+            assert_eq!(id, stream_id(self.opened_uni << 2 | 3));
             self.opened_uni += 1;
         }
     }
@@ -195,7 +195,8 @@ impl Subject {
                 assert_eq!(is, answer, "{step:?}");
             }
             Step::Reset(stream, code, size, answer) => {
-                let is = answer_of(end.on_reset_stream(StreamId(stream), code, size))?;
+                let is =
+                    answer_of(end.on_reset_stream(stream_id(stream), varint(code), varint(size)))?;
                 assert_eq!(is, answer, "{step:?}");
             }
             Step::Ordered(stream, reads, given) => {
@@ -214,10 +215,13 @@ impl Subject {
     fn ask(&mut self, step: &Step) -> Result<()> {
         match *step {
             Step::Stop(stream, open) => {
-                let stopped = self.end.recv_stream(StreamId(stream)).stop(STOP_CODE);
+                let stopped = self
+                    .end
+                    .recv_stream(stream_id(stream))
+                    .stop(varint(STOP_CODE));
                 assert_eq!(stopped.is_ok(), open, "{step:?}");
             }
-            Step::Concurrent(dir, count, _) => self.end.set_max_concurrent(dir, count)?,
+            Step::Concurrent(dir, count, _) => self.end.set_max_concurrent(dir, varint(count))?,
             Step::Is(credit, received) => {
                 let info = self.end.info();
                 let is = (info.local_max_data - self.window, info.data_received);
@@ -232,7 +236,7 @@ impl Subject {
 /// Reads several times. Each chunk has to have the bytes of its place.
 pub fn read(end: &mut StreamsState, stream: u64, ordered: bool, reads: Reads) -> Result<Given> {
     let Reads(most, times) = reads;
-    let mut stream = end.recv_stream(StreamId(stream));
+    let mut stream = end.recv_stream(stream_id(stream));
     let mut chunks = stream.chunks(ordered);
     let (mut bytes, mut last) = (0, Last::Asked);
     for _ in 0..times {
@@ -244,7 +248,7 @@ pub fn read(end: &mut StreamsState, stream: u64, ordered: bool, reads: Reads) ->
             }
             Ok(None) => Last::Ended,
             Err(ReadError::Blocked) => Last::Blocked,
-            Err(ReadError::Reset(code)) => Last::Reset(code),
+            Err(ReadError::Reset(code)) => Last::Reset(code.into()),
             Err(error) => return Err(error.into()),
         };
         break;

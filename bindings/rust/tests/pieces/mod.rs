@@ -3,10 +3,10 @@
 #![allow(dead_code)] // each test file uses a part
 
 use crate::one_end::steps::{answer_of, Answer, TAKEN};
-use crate::one_end::{client, Result};
+use crate::one_end::{client, stream_id, Result};
 use quic_streams::{Dir, ReadError, StreamId, StreamsState};
 
-pub const ID: StreamId = StreamId(3);
+pub const ID: StreamId = stream_id(3);
 
 /// INTERNAL_ERROR (RFC 9000 section 20.1).
 pub const INTERNAL: Answer = Err(1);

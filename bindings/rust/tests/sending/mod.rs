@@ -6,11 +6,11 @@
 #[path = "../common/mod.rs"]
 mod common;
 
-use common::config;
-pub use common::{Result, CONTROL, STREAMS, WINDOW};
+use common::{config, limits};
+pub use common::{stream_id, varint, Result, CONTROL, STREAMS, WINDOW};
 use quic_streams::{
-    ConfigError, Dir, Emit, Event, FinishError, Info, Limits, OutOfMemory, ReceiveError, Side,
-    StreamError, StreamId, StreamsState, Token, WriteError,
+    ConfigError, Dir, Emit, Event, FinishError, Info, OutOfMemory, ReceiveError, Side, StreamError,
+    StreamId, StreamsState, Token, WriteError,
 };
 use std::result;
 
@@ -34,21 +34,21 @@ pub fn available(dir: Dir) -> Option<Event> {
 }
 
 pub fn readable(id: u64) -> Option<Event> {
-    Some(Event::Readable { id: StreamId(id) })
+    Some(Event::Readable { id: stream_id(id) })
 }
 
 pub fn writable(id: u64) -> Option<Event> {
-    Some(Event::Writable { id: StreamId(id) })
+    Some(Event::Writable { id: stream_id(id) })
 }
 
 pub fn finished(id: u64) -> Option<Event> {
-    Some(Event::Finished { id: StreamId(id) })
+    Some(Event::Finished { id: stream_id(id) })
 }
 
 pub fn stopped(id: u64, error_code: u64) -> Option<Event> {
     Some(Event::Stopped {
-        id: StreamId(id),
-        error_code,
+        id: stream_id(id),
+        error_code: varint(error_code),
     })
 }
 
@@ -58,7 +58,7 @@ type Answer = result::Result<(), u64>;
 fn answer_of(answer: result::Result<(), ReceiveError>) -> Answer {
     match answer {
         Ok(()) => Ok(()),
-        Err(ReceiveError::Transport(error)) => Err(error.code),
+        Err(ReceiveError::Transport(error)) => Err(error.code.into()),
         Err(error) => panic!("{error}"),
     }
 }
@@ -88,15 +88,7 @@ impl End {
         data: u64,
         stream_data: u64,
     ) -> result::Result<(), ConfigError> {
-        self.0.set_params(&Limits {
-            initial_max_data: data,
-            initial_max_streams_bidi: streams,
-            initial_max_streams_uni: streams,
-            initial_max_stream_data_uni: stream_data,
-            initial_max_stream_data_bidi_local: stream_data,
-            initial_max_stream_data_bidi_remote: stream_data,
-            max_datagram: None,
-        })
+        self.0.set_params(&limits(streams, data, stream_data))
     }
 
     pub fn poll(&mut self) -> Option<Event> {
@@ -120,11 +112,11 @@ impl End {
 // Calls on streams.
 impl End {
     pub fn open(&mut self, dir: Dir) -> result::Result<Option<u64>, OutOfMemory> {
-        Ok(self.0.open(dir)?.map(|id| id.0))
+        Ok(self.0.open(dir)?.map(u64::from))
     }
 
     pub fn accept(&mut self, dir: Dir) -> Option<u64> {
-        self.0.accept(dir).map(|id| id.0)
+        self.0.accept(dir).map(u64::from)
     }
 
     /// Writes so many bytes, the first ones of the text.
@@ -133,38 +125,39 @@ impl End {
     }
 
     pub fn put(&mut self, id: u64, bytes: &[u8]) -> result::Result<usize, WriteError> {
-        self.0.send_stream(StreamId(id)).write(bytes)
+        self.0.send_stream(stream_id(id)).write(bytes)
     }
 
     pub fn finish(&mut self, id: u64) -> result::Result<(), FinishError> {
-        self.0.send_stream(StreamId(id)).finish()
+        self.0.send_stream(stream_id(id)).finish()
     }
 
     pub fn reset(&mut self, id: u64, code: u64) -> result::Result<(), StreamError> {
-        self.0.send_stream(StreamId(id)).reset(code)
+        self.0.send_stream(stream_id(id)).reset(varint(code))
     }
 
     pub fn set_priority(&mut self, id: u64, priority: i32) -> result::Result<(), StreamError> {
-        self.0.send_stream(StreamId(id)).set_priority(priority)
+        self.0.send_stream(stream_id(id)).set_priority(priority)
     }
 
     pub fn priority(&mut self, id: u64) -> result::Result<i32, StreamError> {
-        self.0.send_stream(StreamId(id)).priority()
+        self.0.send_stream(stream_id(id)).priority()
     }
 
     /// The code of the first STOP_SENDING, if one came.
     pub fn stop_code(&mut self, id: u64) -> result::Result<Option<u64>, StreamError> {
-        self.0.send_stream(StreamId(id)).stopped()
+        let code = self.0.send_stream(stream_id(id)).stopped()?;
+        Ok(code.map(u64::from))
     }
 
     pub fn stop(&mut self, id: u64, code: u64) -> result::Result<(), StreamError> {
-        self.0.recv_stream(StreamId(id)).stop(code)
+        self.0.recv_stream(stream_id(id)).stop(varint(code))
     }
 
     /// Reads the bytes of a stream that came, at most so many.
     pub fn read(&mut self, id: u64, most: usize) -> Result<Vec<u8>> {
         let mut bytes = vec![0; most];
-        let count = self.0.recv_stream(StreamId(id)).read(&mut bytes)?;
+        let count = self.0.recv_stream(stream_id(id)).read(&mut bytes)?;
         bytes.truncate(count.unwrap_or(0));
         Ok(bytes)
     }
@@ -174,30 +167,30 @@ impl End {
 impl End {
     /// So many first bytes of a stream.
     pub fn data(&mut self, id: u64, count: usize) -> Answer {
-        let id = StreamId(id);
+        let id = stream_id(id);
         answer_of(self.0.on_stream(id, 0, &TEXT[..count], false, count))
     }
 
     /// The end of a stream that has so many bytes.
     pub fn fin(&mut self, id: u64, size: u64) -> Answer {
-        answer_of(self.0.on_stream(StreamId(id), size, b"", true, 0))
+        answer_of(self.0.on_stream(stream_id(id), size, b"", true, 0))
     }
 
     /// One byte of a stream, with its end.
     pub fn whole(&mut self, id: u64) -> Answer {
-        answer_of(self.0.on_stream(StreamId(id), 0, b"\0", true, 1))
+        answer_of(self.0.on_stream(stream_id(id), 0, b"\0", true, 1))
     }
 
     pub fn stop_sending(&mut self, id: u64, code: u64) -> Answer {
-        answer_of(self.0.on_stop_sending(StreamId(id), code))
+        answer_of(self.0.on_stop_sending(stream_id(id), varint(code)))
     }
 
     pub fn max_data(&mut self, limit: u64) -> Answer {
-        answer_of(self.0.on_max_data(limit))
+        answer_of(self.0.on_max_data(varint(limit)))
     }
 
     pub fn max_stream_data(&mut self, id: u64, limit: u64) -> Answer {
-        answer_of(self.0.on_max_stream_data(StreamId(id), limit))
+        answer_of(self.0.on_max_stream_data(stream_id(id), limit))
     }
 
     pub fn max_streams(&mut self, dir: Dir, count: u64) -> Answer {
@@ -249,12 +242,18 @@ impl End {
 
     /// The bytes of the next payload of STREAM frames; none where nothing is due.
     pub fn sends(&mut self, max_size: usize) -> Result<Vec<u8>> {
-        Ok(self.emit_data(max_size)?.unzip().0.unwrap_or_default())
+        Ok(self
+            .emit_data(max_size)?
+            .map(|(bytes, _)| bytes)
+            .unwrap_or_default())
     }
 
     /// The same of the other frames.
     pub fn controls(&mut self, max_size: usize) -> Result<Vec<u8>> {
-        Ok(self.emit_control(max_size)?.unzip().0.unwrap_or_default())
+        Ok(self
+            .emit_control(max_size)?
+            .map(|(bytes, _)| bytes)
+            .unwrap_or_default())
     }
 
     /// A payload of STREAM frames that has to be these bytes, and its token.
