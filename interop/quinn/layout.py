@@ -5,10 +5,11 @@ import shutil
 import subprocess
 import sys
 
-import rules
+from common import packages
+from common.folders import INTEROP, ROOT
+from quinn import rules
 
-HERE = pathlib.Path(__file__).resolve().parent
-ROOT = HERE.parent.parent
+HERE = INTEROP / 'quinn'
 BUILD = ROOT / 'build' / 'quinn'
 REGISTRY = pathlib.Path('/usr/share/cargo/registry')
 PACKAGE = REGISTRY / 'quinn-proto-0.9.2'
@@ -16,7 +17,7 @@ STOCK, OURS = 'stock', 'ours'
 
 PACKAGES = [f'librust-{name}-dev' for name in (
     'quinn-proto', 'quinn', 'hex-literal', 'lazy-static', 'assert-matches', 'tracing-subscriber', 'rustls', 'webpki', 'ring',
-    'slab', 'tinyvec', 'rustls-native-certs', 'arbitrary', 'tokio')]
+    'slab', 'tinyvec', 'rustls-native-certs', 'arbitrary', 'tokio', 'anyhow', 'clap', 'clap-derive', 'rand')]
 
 CONFIG = f'''[source.crates-io]
 replace-with = "debian"
@@ -26,18 +27,9 @@ directory = "{REGISTRY}"
 '''
 
 
-def have(package):
-    asked = subprocess.run(['dpkg-query', '-W', '-f', '${Status}', package], capture_output=True, text=True)
-    return asked.stdout == 'install ok installed'
-
-
 def install():
     """Installs Debian's packages that are missing."""
-    missing = [package for package in PACKAGES if not have(package)]
-    if missing:
-        print('installing', *missing, flush=True)
-        subprocess.run(['apt-get', 'update', '-q'], check=True, stdout=subprocess.DEVNULL)
-        subprocess.run(['apt-get', 'install', '-y', '-q', *missing], check=True, stdout=subprocess.DEVNULL)
+    packages.install(PACKAGES)
 
 
 def library():
@@ -125,6 +117,24 @@ def cargo(which, *words, folder, **more):
     if ran.returncode != 0 and 'could not compile' in ran.stderr:
         sys.exit(ran.stderr)
     return ran
+
+
+def program(which, source, name):
+    """Builds a program in Rust over one of the two layers, and returns where it is."""
+    folder = lay(which) / source.name
+    files = files_of(source)
+    if which == OURS:
+        files[pathlib.Path('Cargo.toml')] += b'\n[patch.crates-io]\nquinn-proto = { path = "../quinn-proto" }\n'
+    lock = pathlib.Path('Cargo.lock')
+    if (folder / lock).is_file():
+        files[lock] = (folder / lock).read_bytes()
+    put(folder, files)
+    cargo(which, 'build', '--release', folder=folder).check_returncode()
+    place = BUILD / f'{name}-{which}'
+    new = place.with_suffix('.new')
+    shutil.copy(BUILD / 'target' / 'release' / name, new)
+    new.replace(place)
+    return place
 
 
 def clean(_words):

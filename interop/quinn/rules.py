@@ -7,7 +7,7 @@ import re
 from dataclasses import dataclass
 
 # Files that go: what they hold is in the library.
-GONE = ['src/connection/streams', 'src/connection/send_buffer.rs']
+GONE = ['src/connection/streams', 'src/connection/send_buffer.rs', 'src/connection/datagrams.rs']
 
 
 @dataclass
@@ -36,6 +36,15 @@ RULES = [
     Rule('names', CONNECTION, 'the library takes slices: there is no source of chunks',
          r'\bByteSlice, BytesArray, BytesSource, ', ''),
     Rule('public-names', 'src/lib.rs', 'the same, in what the crate shows', r'\bBytesSource, ', ''),
+    Rule('datagrams', CONNECTION, 'datagrams are in the library',
+         r'^mod datagrams;\nuse datagrams::DatagramState;\npub use datagrams::', 'pub use streams::'),
+    Rule('datagram-field', CONNECTION, 'the same', r'    /// State of the unreliable datagram extension\n    datagrams: DatagramState,\n', ''),
+    Rule('new', CONNECTION, 'the library takes the limits of streams and of datagrams',
+         r'StreamsState::new\(.*?\),\s+datagrams: DatagramState::default\(\),', 'StreamsState::new(side, &config),'),
+    Rule('poll', CONNECTION, 'an event may be one of datagrams',
+         r'(if let Some\(event\) = self\.streams\.poll\(\) \{\s+return Some\()Event::Stream\(event\)\)', r'\1event)'),
+    Rule('memory', CONNECTION, 'a call of the library may run out of memory',
+         r'(pub fn poll_transmit\(.*?assert!\(max_datagrams != 0\);\n)', r'\1        self.close_if_out_of_memory(now);\n'),
     Rule('handles', CONNECTION, 'what the handles of a stream queue is queued in the library',
          rf'\n +pending: &mut {DATA}\.pending,', '', 2),
     Rule('receive-window', CONNECTION, 'the library queues MAX_DATA itself where the window grows',
@@ -53,6 +62,14 @@ RULES = [
     Rule('data-space', CONNECTION, 'the library knows no packet number spaces: streams are of the last alone',
          r'(PacketSpace::new\(now\), )PacketSpace::new\(now\)\]',
          r'\1PacketSpace { pending: Retransmits::with_streams(), ..PacketSpace::new(now) }]'),
+    Rule('payload', CONNECTION, 'the library takes a payload whole that has frames of streams and datagrams alone',
+         r'(let mut ack_eliciting = false;\n)(        for frame in frame::Iter::new\(payload\) \{)',
+         r'\1        let is_taken = self.streams.received_payload(&payload, &mut self.stats.frame_rx)?;\n'
+         r'        ack_eliciting |= is_taken;\n        is_probing_packet &= !is_taken;\n'
+         r'        let payload = if is_taken { Bytes::new() } else { payload };\n\2'),
+    Rule('received-datagram', CONNECTION, 'the library tells the event itself',
+         r'if self\s+\.datagrams\s+\.received\(datagram, &self\.config\.datagram_receive_buffer_size\)\?\s+\{.*?\n {20}\}',
+         'self.streams.received_datagram(datagram)?;'),
     Rule('received', CONNECTION, 'the library queues MAX_DATA itself, and copies the data, so that it holds no memory of a packet',
          rf'if (self\.streams\.received)\(frame, payload_len\)\?\.should_transmit\(\) \{{.*?true;\n +\}}', r'\1(frame)?;'),
     Rule('received-reset', CONNECTION, 'the library queues MAX_DATA itself',
@@ -66,10 +83,17 @@ RULES = [
     Rule('write-control', CONNECTION, 'what is pending is in the library; a token stands for what was written',
          r'(self\.streams\.write_control_frames\(\s+buf,)\s+&mut space\.pending,\s+&mut sent\.retransmits,',
          r'\1 &mut sent.stream_frames,'),
-    Rule('write-streams', CONNECTION, 'a token stands for what was written',
+    Rule('write-datagrams', CONNECTION, 'a token stands for what was written',
+         r'while (buf\.len\(\) \+ Datagram::SIZE_BOUND < max_size && space_id == SpaceId::Data \{).*?\n        \}\n',
+         r'if \1\n            let (notes, counters) = (&mut sent.stream_frames, &mut self.stats.frame_tx);\n'
+         r'            sent.non_retransmits |= self.streams.write_datagrams(buf, notes, counters, max_size);\n        }\n'),
+    Rule('write-streams', CONNECTION, 'the same',
          r'sent\.stream_frames = (self\.streams\.write_stream_frames\()buf, max_size\);\s+self\.stats\.frame_tx\.stream [^;]*;',
-         r'self.stats.frame_tx.stream += \1buf, &mut sent.stream_frames, max_size);'),
-    Rule('notes', CONNECTION, 'what a packet carries of the streams is two tokens',
+         r'let (notes, counters) = (&mut sent.stream_frames, &mut self.stats.frame_tx);\n'
+         r'            \1buf, notes, counters, max_size);'),
+    Rule('waiting-datagrams', CONNECTION, 'the library is asked what waits',
+         r'!self\.datagrams\.outgoing\.is_empty\(\)', 'self.streams.has_datagrams()'),
+    Rule('notes', CONNECTION, 'what a packet carries of streams and datagrams is three tokens',
          r'stream_frames: StreamMetaVec,', 'stream_frames: streams::Payloads,'),
     Rule('sent-packet', SPACES, 'the same, of a packet in flight',
          r'stream_frames: frame::StreamMetaVec,', 'stream_frames: super::streams::Payloads,'),

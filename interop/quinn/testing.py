@@ -2,7 +2,7 @@
 import re
 import subprocess
 
-import layout
+from quinn import layout
 
 LINE = re.compile(r'^test (\S+) \.\.\. (\w+)', re.M)
 # The tests of what was replaced are not there on this layer.
@@ -26,7 +26,7 @@ def is_end_to_end(name):
 
 
 def tell(stock, ours):
-    """Prints the results side by side, and gives how many end-to-end tests pass there and not here."""
+    """Prints the results side by side, and gives how many end-to-end tests pass there and not here, or fail that are only here."""
     worse = 0
     for name in sorted(stock, key=lambda name: (not is_end_to_end(name), name)):
         here = ours.get(name, 'replaced' if REPLACED.match(name) else 'missing')
@@ -38,6 +38,9 @@ def tell(stock, ours):
         here = sum(ours.get(name) == 'ok' for name in names)
         gone = sum(bool(REPLACED.match(name)) for name in names)
         print(f'{title}: {passed} of {len(names)} pass on the stock streams; on these {here} of {len(names) - gone}')
+    for name in sorted(set(ours) - set(stock)):
+        print(f'{"none":7} {ours[name]:9} {name}')
+        worse += ours[name] != 'ok'
     return worse
 
 

@@ -2,11 +2,11 @@
 import hashlib
 import os
 import re
-import shutil
 import statistics
 import subprocess
 
-import layout
+from common import building
+from quinn import layout
 
 ROUNDS = 5
 LENGTH = 100_000_000
@@ -16,31 +16,14 @@ TOLD = re.compile(r'seconds ([\d.]+) processor ([\d.]+)')
 PAIRS = [(client, server) for client in (layout.STOCK, layout.OURS) for server in (layout.STOCK, layout.OURS)]
 
 
-def build(which):
-    """Builds the program on a layer."""
-    folder = layout.lay(which) / 'transfer'
-    files = layout.files_of(layout.HERE / 'transfer')
-    manifest = layout.pathlib.Path('Cargo.toml')
-    if which == layout.OURS:
-        files[manifest] += b'\n[patch.crates-io]\nquinn-proto = { path = "../quinn-proto" }\n'
-    lock = layout.pathlib.Path('Cargo.lock')
-    if (folder / lock).is_file():
-        files[lock] = (folder / lock).read_bytes()
-    layout.put(folder, files)
-    layout.cargo(which, 'build', '--release', folder=folder).check_returncode()
-    program = layout.BUILD / f'transfer-{which}'
-    shutil.copy(layout.BUILD / 'target' / 'release' / 'transfer', program)
-    return program
-
-
 def hash_of(path):
     return hashlib.sha256(path.read_bytes()).hexdigest()
 
 
 def started(*words):
     """A process that says when it is ready."""
-    process = subprocess.Popen([str(word) for word in words], stdout=subprocess.PIPE, text=True)
-    if process.stdout.readline() != 'ready\n':
+    process = subprocess.Popen([str(word) for word in words], stdin=subprocess.PIPE, stdout=subprocess.PIPE, text=True)
+    if not process.stdout.readline().startswith('ready'):
         raise SystemExit(f'{words} did not start')
     return process
 
@@ -63,7 +46,7 @@ def transfer(programs, client, server, one_in):
     port = LOSSY_PORT if one_in else PORT
     try:
         if one_in:
-            running.append(started(programs[layout.STOCK], 'lossy', LOSSY_PORT, PORT, one_in))
+            running.append(started(programs['proxy'], '--listen', LOSSY_PORT, '--target', PORT, '--loss', 100 / one_in))
         running.append(subprocess.Popen([programs[client], 'fetch', str(port), keys / 'cert.der', up, got_down],
                                         stdout=subprocess.PIPE, text=True))
         (seconds, of_client), (_, of_server) = ended(running[-1]), ended(running[0])
@@ -88,7 +71,8 @@ def row(taken, first):
 def run(words):
     rounds = int(words[0]) if words else ROUNDS
     layout.install()
-    programs = {which: build(which) for which in (layout.STOCK, layout.OURS)}
+    programs = {which: layout.program(which, layout.HERE / 'transfer', 'transfer') for which in (layout.STOCK, layout.OURS)}
+    programs['proxy'] = building.proxy()
     for name in ('up', 'down'):
         (layout.BUILD / name).write_bytes(os.urandom(LENGTH))
     print(f'{LENGTH:,} bytes up, then down; medians of {rounds}, and their ratios to stock and stock', flush=True)

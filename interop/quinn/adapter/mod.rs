@@ -1,24 +1,28 @@
-//! What quinn-proto calls of its streams, over the library of this repository.
+//! What quinn-proto calls of its streams and datagrams, over the library of this repository.
 //!
-//! This folder takes the place of quinn-proto's `connection/streams`. The state of the streams is in the library; here
-//! are the names and types that the packet layer and applications of quinn-proto know, and nothing that decides.
+//! This folder takes the place of quinn-proto's `connection/streams` and `connection/datagrams.rs`. The state of the streams
+//! is in the library; here are the names and types that the packet layer and applications of quinn-proto know.
 
-use std::cell::{Cell, RefCell};
-use std::collections::VecDeque;
-
-use bytes::{Bytes, BytesMut};
-use rustc_hash::FxHashMap;
+use bytes::Bytes;
 use thiserror::Error;
 
 use crate::{Dir, StreamId, VarInt};
 
+mod application;
+mod datagrams;
+mod incoming;
+mod names;
+mod outgoing;
 mod payloads;
-pub(crate) use payloads::Payloads;
+mod reading;
 mod recv;
-pub use recv::{Chunks, ReadError, ReadableError};
 mod send;
-pub use send::{FinishError, WriteError, Written};
 mod state;
+
+pub use datagrams::{Datagrams, SendDatagramError};
+pub(crate) use payloads::Payloads;
+pub use recv::{Chunks, ReadError, ReadableError};
+pub use send::{FinishError, WriteError, Written};
 pub use state::StreamsState;
 
 /// Access to streams
@@ -28,7 +32,7 @@ pub struct Streams<'a> {
 }
 
 impl Streams<'_> {
-    /// Opens the next stream of a direction, unless as many are open as the peer permits
+    /// Opens the next stream of a direction, unless as many are open as the peer allows
     pub fn open(&mut self, dir: Dir) -> Option<StreamId> {
         if self.conn_state.is_closed() {
             return None;
@@ -41,31 +45,31 @@ impl Streams<'_> {
         self.state.accept(dir)
     }
 
-    /// How many streams may have data that were not acknowledged
+    /// The number of streams that may have unacknowledged data
     pub fn send_streams(&self) -> usize {
         self.state.send_streams()
     }
 }
 
-/// The receive half of a stream
+/// The receive side of a stream
 pub struct RecvStream<'a> {
     pub(super) id: StreamId,
     pub(super) state: &'a mut StreamsState,
 }
 
 impl RecvStream<'_> {
-    /// Begins to read, in order or as the bytes came
+    /// Begins to read, in order or in the order of arrival
     pub fn read(&mut self, ordered: bool) -> Result<Chunks<'_>, ReadableError> {
         Chunks::new(self.state, self.id, ordered)
     }
 
-    /// Asks the peer to send no more, and lets go what was not read
+    /// Asks the peer to stop sending, and drops unread data
     pub fn stop(&mut self, error_code: VarInt) -> Result<(), UnknownStream> {
         self.state.stop(self.id, error_code)
     }
 }
 
-/// The send half of a stream
+/// The send side of a stream
 pub struct SendStream<'a> {
     pub(super) id: StreamId,
     pub(super) state: &'a mut StreamsState,
@@ -73,7 +77,7 @@ pub struct SendStream<'a> {
 }
 
 impl SendStream<'_> {
-    /// Writes the first of some bytes, and says how many
+    /// Writes the first bytes of `data`, and returns how many
     pub fn write(&mut self, data: &[u8]) -> Result<usize, WriteError> {
         if self.conn_state.is_closed() {
             return Err(WriteError::Blocked);
@@ -81,22 +85,22 @@ impl SendStream<'_> {
         self.state.write(self.id, data)
     }
 
-    /// Writes the first of some chunks, and says how many and how much. What was written is cut from them.
+    /// Writes the first of some chunks, and returns how many and how much. What was written is cut from them.
     pub fn write_chunks(&mut self, data: &mut [Bytes]) -> Result<Written, WriteError> {
         send::write_chunks(self, data)
     }
 
-    /// The code with which the peer asked to send no more, if it did
+    /// The code of the peer's STOP_SENDING, if one was received
     pub fn stopped(&mut self) -> Result<Option<VarInt>, UnknownStream> {
         self.state.stopped(self.id)
     }
 
-    /// Ends the stream: nothing more is written on it
+    /// Finishes the stream: nothing more can be written
     pub fn finish(&mut self) -> Result<(), FinishError> {
         self.state.finish(self.id)
     }
 
-    /// Gives the stream up: what was not acknowledged is not sent again
+    /// Resets the stream: data is not retransmitted any more
     pub fn reset(&mut self, error_code: VarInt) -> Result<(), UnknownStream> {
         self.state.reset(self.id, error_code)
     }
@@ -112,7 +116,7 @@ impl SendStream<'_> {
     }
 }
 
-/// What an application is told of its streams
+/// An event for the application
 #[derive(Debug, PartialEq, Eq)]
 pub enum StreamEvent {
     /// The peer opened streams of a direction
@@ -125,43 +129,43 @@ pub enum StreamEvent {
         /// The direction
         dir: Dir,
     },
-    /// The peer asked to send no more on a stream
+    /// The peer asked to stop sending on a stream
     Stopped {
         /// The stream
         id: StreamId,
-        /// Why, in the application's terms
+        /// The application error code
         error_code: VarInt,
     },
-    /// All of a stream was acknowledged, with its end
+    /// All data of a stream was acknowledged, with its FIN
     Finished {
         /// The stream
         id: StreamId,
     },
-    /// A stream that was blocked may take bytes now
+    /// A blocked stream may be written on again
     Writable {
         /// The stream
         id: StreamId,
     },
-    /// A stream may have bytes, an end or a reset to read
+    /// A stream may have data, a FIN or a reset to read
     Readable {
         /// The stream
         id: StreamId,
     },
 }
 
-/// Whether something is to be sent
+/// Whether a packet should be sent
 #[derive(Copy, Clone, Debug, Default, Eq, PartialEq)]
-#[must_use = "something may wait to be sent"]
+#[must_use = "a packet may have to be sent"]
 pub struct ShouldTransmit(bool);
 
 impl ShouldTransmit {
-    /// Whether something is to be sent
+    /// Whether a packet should be sent
     pub fn should_transmit(self) -> bool {
         self.0
     }
 }
 
-/// The stream was not opened or accepted, or that half of it is closed
+/// The stream was neither opened nor accepted, or this side of it is closed
 #[derive(Debug, Error, Clone, PartialEq, Eq)]
 #[error("unknown stream")]
 pub struct UnknownStream {

@@ -6,7 +6,7 @@ use super::{ShouldTransmit, StreamsState};
 use crate::connection::assembler::Chunk;
 use crate::{StreamId, VarInt};
 
-/// The chunks of a stream
+/// The chunks of a stream, as they are read
 pub struct Chunks<'a> {
     streams: &'a mut StreamsState,
     id: StreamId,
@@ -33,29 +33,29 @@ impl<'a> Chunks<'a> {
 
     /// The next chunk, of at most `max_length` bytes, or `None` at the end of the stream
     ///
-    /// Nothing comes while this lives, so that what follows the last chunk is asked once.
-    ///
-    /// `finalize` is to be called after the last of them.
+    /// Nothing is received while this lives, so the library is asked once for what follows the last chunk. Call `finalize`
+    /// after the last chunk.
     pub fn next(&mut self, max_length: usize) -> Result<Option<Chunk>, ReadError> {
         assert!(!self.finalized, "next() after finalize()");
         if let Some(end) = &self.end {
             return end.clone().map(|()| None);
         }
-        match self.streams.read(self.id, self.ordered, max_length) {
-            Ok(Some(piece)) => {
-                if !piece.has_more {
+        let end = match self.streams.read(self.id, self.ordered, max_length) {
+            Ok(Some((chunk, has_more))) => {
+                if !has_more {
                     self.end = Some(Err(ReadError::Blocked));
                 }
-                return Ok(Some(piece.chunk));
+                return Ok(Some(chunk));
             }
-            Ok(None) => self.end = Some(Ok(())),
             Err(ReadError::Blocked) => return Err(ReadError::Blocked),
-            Err(error) => self.end = Some(Err(error)),
-        }
-        self.next(max_length)
+            Ok(None) => Ok(()),
+            Err(error) => Err(error),
+        };
+        self.end = Some(end.clone());
+        end.map(|()| None)
     }
 
-    /// Ends the reading, and says whether something is to be sent: the library gave the peer credit with each chunk
+    /// Ends the reading, and returns whether a packet should be sent: the library returned credit with each chunk
     pub fn finalize(mut self) -> ShouldTransmit {
         self.finalized = true;
         ShouldTransmit(self.streams.has_pending())
@@ -66,18 +66,18 @@ impl Drop for Chunks<'_> {
     fn drop(&mut self) {
         debug_assert!(
             self.finalized || std::thread::panicking(),
-            "finalize() is to be called before the drop"
+            "finalize() must be called before the drop"
         );
     }
 }
 
-/// Why nothing was read
+/// Why no data was read
 #[derive(Clone, Debug, Error, Hash, PartialEq, Eq, PartialOrd, Ord)]
 pub enum ReadError {
-    /// Nothing is at hand; [`StreamEvent::Readable`](crate::StreamEvent::Readable) follows
+    /// No data is available; [`StreamEvent::Readable`](crate::StreamEvent::Readable) follows
     #[error("blocked")]
     Blocked,
-    /// The peer gave the stream up, with this code
+    /// The peer reset the stream, with this code
     #[error("reset by peer: code {0}")]
     Reset(VarInt),
 }
@@ -85,10 +85,10 @@ pub enum ReadError {
 /// Why a stream cannot be read
 #[derive(Clone, Debug, Error, Hash, PartialEq, Eq, PartialOrd, Ord)]
 pub enum ReadableError {
-    /// The stream was not given, or was stopped, or read to its end or to its reset
+    /// The stream was neither opened nor accepted, was stopped, or was read to its end or its reset
     #[error("unknown stream")]
     UnknownStream,
-    /// The stream was read as bytes came before
+    /// The stream was read in the order of arrival before
     #[error("ordered read after unordered read")]
     IllegalOrderedRead,
 }

@@ -9,22 +9,22 @@ use crate::VarInt;
 /// How much was written
 #[derive(Debug, Default, PartialEq, Eq, Clone, Copy)]
 pub struct Written {
-    /// How many chunks to their end
+    /// The number of chunks that were written completely
     pub chunks: usize,
-    /// How many bytes
+    /// The number of bytes
     pub bytes: usize,
 }
 
-/// Why nothing was written
+/// Why no data was written
 #[derive(Clone, Debug, Error, Hash, PartialEq, Eq, PartialOrd, Ord)]
 pub enum WriteError {
-    /// A limit leaves no room; [`StreamEvent::Writable`](crate::StreamEvent::Writable) follows
+    /// A limit leaves no credit; [`StreamEvent::Writable`](crate::StreamEvent::Writable) follows
     #[error("unable to accept further writes")]
     Blocked,
-    /// The peer asked to send no more, with this code
+    /// The peer asked to stop sending, with this code
     #[error("stopped by peer: code {0}")]
     Stopped(VarInt),
-    /// The stream was not given, or was finished or reset
+    /// The stream was neither opened nor accepted, or was finished or reset
     #[error("unknown stream")]
     UnknownStream,
 }
@@ -32,16 +32,16 @@ pub enum WriteError {
 /// Why a stream was not finished
 #[derive(Debug, Error, Clone, PartialEq, Eq)]
 pub enum FinishError {
-    /// The peer asked to send no more, with this code
+    /// The peer asked to stop sending, with this code
     #[error("stopped by peer: code {0}")]
     Stopped(VarInt),
-    /// The stream was not given, or was finished or reset
+    /// The stream was neither opened nor accepted, or was finished or reset
     #[error("unknown stream")]
     UnknownStream,
 }
 
-/// Writes chunks one after another, until one is not taken to its end. An error after the first byte is left to the next
-/// call.
+/// Writes chunks one after another, until one is not written completely. An error after the first byte is returned by the
+/// next call.
 pub(super) fn write_chunks(
     stream: &mut SendStream<'_>,
     data: &mut [Bytes],

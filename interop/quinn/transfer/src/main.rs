@@ -1,13 +1,10 @@
-//! A file over QUIC, both ways, and a network between that loses datagrams.
+//! A file over QUIC, both ways.
 //!
 //!     transfer serve PORT CERTIFICATE KEY FILE COPY
 //!     transfer fetch PORT CERTIFICATE FILE COPY
-//!     transfer lossy PORT TARGET_PORT ONE_IN
 //!
 //! The client sends FILE and ends the stream; then the server sends its FILE back. Each puts what came into COPY, and
 //! prints the seconds and the processor time from the first packet to the last byte.
-
-mod lossy;
 
 use quinn::{ClientConfig, Endpoint, RecvStream, SendStream, ServerConfig};
 use std::error::Error;
@@ -22,16 +19,13 @@ fn main() -> Answer<()> {
     let words: Vec<String> = std::env::args().skip(1).collect();
     let words: Vec<&str> = words.iter().map(String::as_str).collect();
     match words[..] {
-        ["lossy", port, target, one_in] => {
-            lossy::run(here(port)?, here(target)?, one_in.parse()?).map_err(Into::into)
-        }
         ["serve", port, certificate, key, file, copy] => {
             on_one_thread(serve(here(port)?, certificate, key, file, copy))
         }
         ["fetch", port, certificate, file, copy] => {
             on_one_thread(fetch(here(port)?, certificate, file, copy))
         }
-        _ => Err("transfer serve | fetch | lossy ..".into()),
+        _ => Err("transfer serve | fetch ..".into()),
     }
 }
 
