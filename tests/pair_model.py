@@ -1,5 +1,5 @@
 """A model of two ends and the network between them, as `streampair` has them. It keeps what was written, sent,
-delivered, acknowledged and read, and knows by docs/rules.md, docs/limits.md and RFC 9000 how each line may be answered."""
+delivered, acknowledged and read, and knows by docs/rules.md and RFC 9000 how each line may be answered."""
 import bisect
 import collections
 

@@ -1,27 +1,37 @@
-"""Whether the pages are right where a program can check it: links lead somewhere; files, names of code, clauses and
-definitions that a page names exist; numbers of definitions are those that are counted."""
-import glob
+"""Whether the pages are right where a program can check it: links lead somewhere; files, names of code and tests that a page
+names exist; quotes are as their sources; numbers are those that are counted; sessions print what the page shows."""
 import os
 import re
+import shutil
 import subprocess
 import sys
+import tempfile
 import unittest
 
 sys.path.insert(0, os.path.dirname(os.path.abspath(__file__)))
+sys.path.insert(0, os.path.join(os.path.dirname(os.path.dirname(os.path.abspath(__file__))), "tools"))
+import draw_pictures  # noqa: E402
+import list_tests  # noqa: E402
+import update_pages  # noqa: E402
 from test_programs import ROOT, program, run  # noqa: E402
 
 THIS = os.path.relpath(os.path.abspath(__file__), ROOT)
-SUFFIXES = "rt|antt|py|md|svg|c|h|edit|txt|map"
+SUFFIXES = "rt|antt|py|md|svg|c|h|rs|edit|txt|map|cff"
+# The pages at the top, beside those of docs/, and the folders with a README.md of their own or a page in docs/.
+AT_TOP = ["README.md", "CONTRIBUTING.md", "SECURITY.md", "CHANGELOG.md"]
+FOLDERS = ["bindings/rust", "examples", "interop"]
+# How many pages there may be beside the changelog, and how long they may be.
+MOST_PAGES, MOST_WORDS, MOST_WORDS_OF_A_PAGE, MOST_LINES_OF_README = 20, 22_000, 2_600, 120
 # Files that a build makes, that are in the kit, or that are the reader's own.
-MADE = re.compile(r"(?:out|build|c|target)/|lib\w+\.(?:a|so)$|my_host\.c$")
-# Names that are not in this repository: those of other programs, and of lines that are typed.
-FOREIGN = {"bench", "rattle", "CRATE_tests", "HEX", "Box::new", "io::Error", "Event::DatagramReceived", "WHAT", "GLIBC_TUNABLES"} | set(
-    "quinn rustls webpki ring slab tinyvec arbitrary tokio openssl transfer rcgen stop_stream stream_flow_control zero_rtt_rejection UnknownStream".split()
+MADE = re.compile(r"(?:^|/)(?:out|build|c|target)/|lib\w+\.(?:a|so)(?:\.0)?$|my_host\.c$|crates\.svg$")
+# Names that are not in this repository: of other programs and packages, and of lines that are typed.
+FOREIGN = set(
+    "rattle HEX P S N bench quinn slab KIT NOT_REFUSED Event::DatagramReceived frame::Iter Connection "
+    "UnknownStream IllegalOrderedRead max_datagram_frame_size initial_max_data host_frame ldconfig NAME crates.svg cargo connection/stream_findings.rs connection/mod.rs assemble_unordered".split()
 )
 CODE = re.compile(r"`([^`\n]+)`")
-PATH = re.compile(rf"[\w./*-]+\.(?:{SUFFIXES})$|(?:crates|docs|tests|tools|bindings|include)/")
+PATH = re.compile(rf"[\w./*-]+\.(?:{SUFFIXES})$|(?:crates|docs|tests|tools|bindings|include|examples|interop|packaging)/")
 LINK = re.compile(r"\[[^\]]*\]\(([^)\s]+)\)")
-HEAD = re.compile(r"^(?:(?:abbrev|unfoldable|opaque)\s+)*(?:pub\s+)?(?:record\s+|data\s+)?([A-Za-z_][\w'-]*)\b", re.M)
 NAME = re.compile(r"[A-Za-z_]\w*")
 
 
@@ -30,15 +40,22 @@ def read(*path):
         return file.read()
 
 
+def page_of(folder):
+    """The page about a folder, if there is one."""
+    names = [f"docs/{os.path.basename(folder)}.md", f"{folder}/README.md"]
+    return next((it for it in names if os.path.isfile(os.path.join(ROOT, it))), folder)
+
+
 def pages():
-    """README.md and the pages of docs/, by their paths."""
-    found = ["README.md"] + sorted(f"docs/{name}" for name in os.listdir(os.path.join(ROOT, "docs")) if name.endswith(".md"))
+    """The pages, by their paths."""
+    found = [*AT_TOP, *(page_of(it) for it in FOLDERS if page_of(it).startswith(f"{it}/"))]
+    found += sorted(f"docs/{name}" for name in os.listdir(os.path.join(ROOT, "docs")) if name.endswith(".md"))
     return {path: read(path) for path in found}
 
 
 def without_blocks(text):
     """The text of a page without its blocks of code."""
-    text = re.sub(r"^```.*?^```$", "", text, flags=re.M | re.S)
+    text = re.sub(r"^ *```.*?^ *```$", "", text, flags=re.M | re.S)
     return re.sub(r"^(?: {4}|\t).*$", "", text, flags=re.M)
 
 
@@ -61,7 +78,7 @@ class Code:
             words = self.words.setdefault(path.split("/")[1], set())
             words.update(NAME.findall(text), [os.path.splitext(os.path.basename(path))[0]])
         self.clauses = {it for text in self.texts.values() for it in re.findall(r"\bensures\*? (\w+) \{", text)}
-        kept = re.compile(r"^(?:tests|tools|include|bindings|examples|packaging|Makefile)")
+        kept = re.compile(r"^(?:tests|tools|include|bindings|examples|interop|packaging|Makefile)")
         others = {word for it in self.files if kept.match(it) and it != THIS for word in NAME.findall(it + " " + read(it))}
         self.all_words = others.union(self.crates, *self.words.values())
         self.members = {}
@@ -89,34 +106,19 @@ class Code:
 
 
 CODES = Code()
+TESTS = {re.split(r"::|\.", name)[-1] for _, names in list_tests.places() for name in names}
 
 
-def is_file(name, text):
-    """Whether a file that a page names exists: by its path from the top, or as the end of a path that the page can mean."""
-    if MADE.match(name):
+def is_file(name):
+    """Whether a file that a page names exists: by its path from the top, or as the end of a path."""
+    if MADE.search(name):
         return True
     ends = re.compile(r"(?:^|/)" + re.escape(name.rstrip("/")).replace(r"\*", "[^/]*") + r"(?:$|/)")
-    known = set(CODES.crates) if name.startswith("crates/*/") else known_crates(text)
-    last = name.rstrip("/").split("/")[-1].split("*")[-1]
-    for path in CODES.files:
-        if last in path and ends.search(path):
-            top, crate, *_ = path.split("/") + [""]
-            if top != "crates" or crate.removesuffix("_tests") in known or crate in known:
-                return True
-    return False
-
-
-def known_crates(text):
-    """The crates that a page speaks of, or all."""
-    return set(NAME.findall(text)) & set(CODES.crates) or set(CODES.crates)
-
-
-def is_known(name, text):
-    return any(name in CODES.words[it] for it in known_crates(text))
+    return any(ends.search(path) for path in CODES.files)
 
 
 def wrong_links(path, text):
-    for target in LINK.findall(text):
+    for target in LINK.findall(without_blocks(text)):
         file, _, anchor = target.partition("#")
         if "://" in file:
             continue
@@ -129,142 +131,99 @@ def wrong_links(path, text):
 
 def wrong_names(path, text):
     """Files and names in a page's `code` that do not exist."""
-    plain = without_blocks(text)
-    if path == "docs/tests.md":
-        # names of the original's tests; test_table.py checks those of this repository
-        plain = plain.split("\n## Tests of the original\n")[0]
-    for code in CODE.findall(plain):
-        if code in FOREIGN:
+    for code in CODE.findall(without_blocks(text)):
+        if code in FOREIGN or code.split()[0] in FOREIGN:
             continue
         if PATH.match(code):
-            if not re.search(r"NAME|CRATE", code) and not is_file(code.split()[0], text):
+            if not re.search(r"NAME|CRATE", code) and not is_file(code.split()[0]):
                 yield f"`{code}`: no such file"
             continue
-        named = re.fullmatch(r"(\w+(?:::\w+)+)(?:\(.*\))?", code)
-        if named:
-            yield from wrong_path(named.group(1).split("::"))
-        elif re.fullmatch(r"[A-Za-z_]\w*", code):
-            if code not in CODES.all_words:
-                yield f"`{code}`: no such word"
-        elif re.fullmatch(r"([A-Za-z_]\w*)\([\w, _&.]*\)", code) and code.split("(")[0] not in CODES.all_words:
-            yield f"`{code}`: no such call"
-        elif re.match(r"(?:[A-Z]\w*[a-z]\w*|\w+_\w+) \w", code) and not is_known(code.split()[0], text):
-            yield f"`{code}`: no such definition"
-
-
-def wrong_path(parts):
-    name = "::".join(parts)
-    if parts[0] in CODES.crates:
-        if not CODES.words[parts[0]].issuperset(parts[1:]):
-            yield f"`{name}`: not in the crate"
-    elif len(parts) == 2 and parts[0] in CODES.all_words and not CODES.has_member(*parts):
-        yield f"`{name}`: no such member"
+        member = re.fullmatch(r"(?:\w+::)*(\w+)::(\w+)(?:\(.*\))?", code)
+        if member and member[1] in CODES.words:
+            if member[2] not in CODES.words[member[1]]:
+                yield f"`{code}` is not there"
+        elif member and not CODES.has_member(member[1], member[2]):
+            yield f"`{code}`: no such member"
+        elif re.fullmatch(r"\w+", code) and re.search(r"[a-z]|^QS_", code) and code not in CODES.all_words:
+            yield f"`{code}` is not there"
 
 
 def wrong_commands(path, text):
-    """Files in a page's blocks of commands that do not exist."""
-    blocks = "\n".join(re.findall(r"^```.*?^```$", text, flags=re.M | re.S) + re.findall(r"^ {4,}.*$", text, flags=re.M))
-    for file in re.findall(r"(?<![\w./])(?:crates|docs|tests|tools|bindings|examples|include)/[\w./*-]+", blocks):
-        if "/out/" not in file and not glob.glob(os.path.join(ROOT, file)):
-            yield f"{file}: typed, and no such file"
+    """Files that the lines of a page's blocks run or read, and that do not exist."""
+    for line in re.findall(r"^ {4,}(\S.*)$", text, flags=re.M):
+        for word in re.findall(rf"(?<![\w/.-])(?:tools|tests|examples|interop|crates|include|\.ci)/[\w./-]*\w", line):
+            if not MADE.search(word) and not os.path.exists(os.path.join(ROOT, word)):
+                yield f"command with {word}: no such file"
 
 
-def wrong_definitions(path, text):
-    """Names behind `Defined in FILE (..)` that the file does not define."""
-    for line in re.findall(r"^Defined in .*$", text, flags=re.M):
-        for file, names in re.findall(r"`([\w/]+\.antt)` \(([^)]*)\)", line):
-            there = f"crates/{file}" in CODES.texts
-            yield from [] if there else [f"{file}: no such file"]
-            wrong = [it for it in CODE.findall(names) if there and not CODES.defines(f"crates/{file}", it)]
-            yield from (f"{file} does not define {it}" for it in wrong)
-
-
-def wrong_words(text):
-    """Rows of the glossary whose file does not have the word."""
-    for section in re.split(r"^## ", text, flags=re.M)[1:]:
-        crates = [it for it in CODE.findall(section.splitlines()[0]) if it in CODES.crates]
-        for row in section.splitlines()[1:]:
-            cells = [it.strip() for it in row.strip().strip("|").split(" | ")]
-            if not crates or len(cells) != 3 or cells[1] in ("In", "---"):
-                continue
-            files = [f"crates/{c}/specs/{f}.antt" for c in crates for f in CODE.findall(cells[1])]
-            there = [it for it in files if it in CODES.texts]
-            for name in [it.split()[0] for it in CODE.findall(cells[0])]:
-                if not any(CODES.defines(it, name) for it in there):
-                    yield f"words: {name} is not in {cells[1]}"
-            for file in CODE.findall(cells[1]):
-                if not any(it.endswith(f"/{file}.antt") for it in there):
-                    yield f"words: no file {file}"
-
-
-def wrong_clauses(text):
-    """Clauses of the table of what is proved that their crate does not have."""
-    for section in re.split(r"^### ", text, flags=re.M)[1:]:
-        crates = [it for it in re.findall(r"\w+", section.splitlines()[0]) if it in CODES.crates]
-        for row in section.splitlines():
-            if crates and row.startswith("| ") and "---" not in row:
-                for name in CODE.findall(row.strip().strip("|").split("|")[-1]):
-                    last = re.split(r"[.:/]+", name.removesuffix(".antt"))[-1]
-                    if not any(last in CODES.words[crate] for crate in crates):
-                        yield f"proved: {name} is not in {', '.join(crates)}"
-
-
-def wrong_sections(text):
-    """Rows of the table of RFC sections: clauses that are not in the crate behind them, tests that do not exist."""
-    tests = "\n".join(it for path, it in CODES.texts.items() if "_tests/src/" in path or path.startswith("bindings/rust/tests/"))
-    sessions = "\n".join(read(it) for it in CODES.files if it.startswith("tests/sessions/"))
-    for row in [it for it in text.splitlines() if it.startswith("| ") and "Section" not in it]:
-        cells = [it.strip() for it in row.strip().strip("|").split(" | ")]
-        if len(cells) != 5:
-            yield f"rfc: a row of {len(cells)} cells: {row[:40]}"
+def wrong_compliance(text):
+    """Rows of the tables of docs/rfc.md with a status that is none, a definition or a test that is not there."""
+    for row in re.findall(r"^\| (.*) \|$", text, flags=re.M):
+        cells = [it.strip() for it in f" {row} ".split("|")]
+        if len(cells) != 6 or cells[0] == "Section" or set(cells[0]) <= {"-"}:
             continue
-        group = []
-        for name in CODE.findall(cells[3]):
-            if name in CODES.crates:
-                known = CODES.words[name] | CODES.clauses
-                yield from (f"rfc: {it} is not in {name}" for it in group if it.split(".")[-1] not in known)
-                group = []
-            else:
-                group.append(name)
-        yield from (f"rfc: no crate behind {it}" for it in group)
-        for name in CODE.findall(cells[4]):
-            if not re.search(rf"^fn {name}\(", tests, flags=re.M) and f"\n[{name}]\n" not in sessions:
-                yield f"rfc: no test {name}"
-
-
-def wrong_code(text):
-    """Rust in the README that is in no source."""
-    sources = "\n".join(it for path, it in CODES.texts.items() if path.endswith(".rt"))
-    flat = re.sub(r"\n +", "\n", sources)
-    for block in re.findall(r"^```rust\n(.*?)^```$", text, flags=re.M | re.S):
-        for part in block.split("\n\n"):
-            if re.sub(r"\n +", "\n", part.strip()) not in flat:
-                yield f"code that stands nowhere: {part.strip().splitlines()[0]}"
-
-
-def wrong_runs(path, text):
-    """Lines that a page quotes of a stored run, and that the program does not print."""
-    name = os.path.splitext(os.path.basename(path))[0]
-    if "\n## The stored run\n" in text and f"crates/{name}/stdout" in CODES.files:
-        printed = {it.strip() for it in read("crates", name, "stdout").splitlines()} | {".."}
-        section = text.split("\n## The stored run\n")[1].split("\n## ")[0]
-        for line in re.findall(r"^    (.*)$", section, flags=re.M):
-            if line.strip() not in printed:
-                yield f"the stored run does not print: {line}"
+        if not re.match(r"met|\*\*(?:host|not met)\*\*", cells[3]):
+            yield f"rfc: a status of {cells[3]}"
+        if cells[3].startswith("met") and not CODE.search(cells[4]):
+            yield f"rfc: {cells[0]} {cells[2]}: met by nothing"
+        yield from (f"rfc: no test {name}" for name in CODE.findall(cells[5]) if name not in TESTS)
 
 
 def faults(path, text):
-    found = [*wrong_links(path, text), *wrong_names(path, text), *wrong_definitions(path, text), *wrong_runs(path, text)]
-    found += wrong_commands(path, text)
-    if path == "docs/words.md":
-        found += wrong_words(text)
-    if path == "docs/proved.md":
-        found += wrong_clauses(text)
+    found = [*wrong_links(path, text), *wrong_names(path, text), *wrong_commands(path, text)]
+    found += update_pages.differing(path, text)
     if path == "docs/rfc.md":
-        found += wrong_sections(text)
-    if path == "README.md":
-        found += wrong_code(text)
+        found += wrong_compliance(text)
     return found
+
+
+# Numbers that pages say beside those of tools/update_pages.py: a page, the words around the number, and how it is counted.
+def numbers():
+    sources = {name: read(name) for name in ("tests/test_sessions.py", "tests/test_early.py", "tests/test_settling.py")}
+    sessions = {re.search(r"^SESSIONS = (\d+)$", text, flags=re.M)[1] for text in sources.values()}
+    rust = next(len(names) for place, names in list_tests.places() if "quinn_proto_findings" in place)
+    cases = [it for it in read("tests/quinn_proto_cases.txt").splitlines() if it and not it.startswith("#")]
+    return [
+        ("docs/testing.md", "{:,} seeded sessions of 200 lines", (int(sessions.pop()),)),
+        ("docs/guide.md", "`crates/connection_loop/src/connection.rt`, {} lines", (read("crates/connection_loop/src/connection.rt").count("\n"),)),
+        ("docs/testing.md", "of which {} test what is here", (len(cases),)),
+        ("docs/findings.md", "all {} fail in debug", ({11: "eleven"}.get(rust),)),
+        ("README.md", "[found {} faults]", ({11: "eleven"}.get(rust),)),
+    ]
+
+
+# What the C of the guide takes from its host.
+HOST = """#include <quic_streams.h>
+#include <stdlib.h>
+void close_connection(uint64_t code, const uint8_t *reason, size_t len);
+int may_send(void);
+size_t host_frame(const uint8_t *frame, size_t len);
+void send_packet(uint64_t number, const uint8_t *data, size_t len);
+void remember(uint64_t number, uint64_t token);
+void loop(qs_conn conn, const uint8_t *payload, size_t len, uint8_t *buffer, size_t capacity, uint64_t number);
+void loop(qs_conn conn, const uint8_t *payload, size_t len, uint8_t *buffer, size_t capacity, uint64_t number) {
+"""
+LIBRARY = os.path.join(ROOT, "build", "lib", "libquic_streams.a")
+
+
+def compiled(text, *more):
+    """What a compiler says of a text in C."""
+    flags = ["-std=c11", "-Wall", "-Wextra", "-Werror", f"-I{ROOT}/include", "-x", "c", "-"]
+    return subprocess.run(["cc", *flags, *more], input=text, stderr=subprocess.PIPE, text=True).stderr
+
+
+# Other numbers that pages say: the words of the page, and the words of a source that say the same.
+STATED = [
+    ("README.md", "all 800,000 bytes arrive", "crates/streamsim/stdout", "given 800000 bytes, as written"),
+    ("examples/README.md", "432,255 bytes are sent again", "crates/streamsim/stdout", " 432255\n"),
+    ("examples/README.md", "one payload in three lost and one in ten late", "crates/streamsim/stdin", "loss 1 in 3"),
+    ("docs/assurance.md", "2,000 seeded lists of steps", "crates/quic_assembler_tests/src/tests/replays.rt", "0..2000u64"),
+    ("docs/assurance.md", "100 seeded sessions", "tests/test_c.py", "100 seeds"),
+    ("docs/testing.md", "a million hostile payloads", "tests/c/hostile.c", ": 1000000;"),
+    ("docs/security.md", "CI does it for the seeds from 1 to 15", "tests/test_refused_memory.py", "range(1, 16)"),
+    ("docs/rules.md", "more than 25 bytes are left", "crates/quic_wire/src/frame.rt", "1 + 8 + 8 + 8"),
+    ("docs/rfc.md", "each datagram counted with 32 more", "bindings/rust/tests/datagrams.rs", "counts_32_more_than_its_length"),
+]
 
 
 class Docs(unittest.TestCase):
@@ -278,14 +237,29 @@ class Docs(unittest.TestCase):
         reached, to_read = set(), ["README.md"]
         while to_read:
             path = to_read.pop()
-            if path not in reached:
+            if path not in reached and path.endswith(".md"):
                 reached.add(path)
-                targets = [it.split("#")[0] for it in LINK.findall(read(path)) if path.endswith(".md")]
-                to_read += [os.path.normpath(os.path.join(os.path.dirname(path), it)) for it in targets if it]
+                targets = [it.split("#")[0] for it in LINK.findall(read(path)) if "://" not in it]
+                there = [os.path.normpath(os.path.join(os.path.dirname(path), it)) for it in targets if it]
+                to_read += [page_of(it) if it in FOLDERS else it for it in there]
         self.assertEqual(set(pages()) - reached, set())
 
-    def test_the_readme_is_short(self):
-        self.assertLessEqual(len(read("README.md").splitlines()), 120)
+    def test_the_pages_are_few_and_short(self):
+        words = {path: len(text.split()) for path, text in pages().items()}
+        self.assertLessEqual(len(words.keys() - {"CHANGELOG.md"}), MOST_PAGES)
+        self.assertLessEqual(sum(words.values()), MOST_WORDS)
+        self.assertEqual({path for path, count in words.items() if count > MOST_WORDS_OF_A_PAGE}, set())
+        self.assertLessEqual(len(read("README.md").splitlines()), MOST_LINES_OF_README)
+
+    def test_numbers_are_those_that_are_counted(self):
+        for path, pattern, counted in numbers():
+            with self.subTest(pattern):
+                wanted = pattern.format(*counted)
+                self.assertTrue(wanted in " ".join(read(path).split()), f"{path} does not say: {wanted}")
+        for path, words, source, same in STATED:
+            with self.subTest(words):
+                self.assertTrue(words in " ".join(read(path).split()), f"{path} does not say: {words}")
+                self.assertTrue(same in read(source), f"{source} does not say: {same}")
 
     def test_the_session_of_the_readme(self):
         """Its lines are those of the file that its command names, and its replies those that the program prints."""
@@ -297,37 +271,36 @@ class Docs(unittest.TestCase):
         if os.access(program("streampair"), os.X_OK):
             self.assertEqual(run("streampair", read(name)), ("".join(f"{reply}\n" for _, reply in shown), 0))
 
-    @unittest.skipUnless(os.access(program("streampair"), os.X_OK), "streampair is not built")
-    def test_the_sessions_of_the_page(self):
-        """Those of docs/streampair.md; one without configs has those of the first."""
-        blocks = re.findall(r"^```\n(.*?)^```$", read("docs/streampair.md"), flags=re.M | re.S)
-        self.assertGreaterEqual(len(blocks), 2)
-        for block in blocks:
-            block = block if block.startswith("config") else "".join(blocks[0].splitlines(keepends=True)[:4]) + block
-            typed, printed = ("".join(re.findall(it, block, flags=re.M)) for it in (r"^(?!> ).*\n", r"^> (.*\n)"))
-            self.assertEqual(run("streampair", typed), (printed, 0))
+    @unittest.skipUnless(shutil.which("cc"), "no C compiler")
+    def test_the_c_of_the_guide_compiles(self):
+        blocks = re.findall(r"^```c\n(.*?)^```$", read("docs/guide.md"), flags=re.M | re.S)
+        programs = [it for it in blocks if it.startswith("#include")]
+        parts = "".join(f"{{\n{block}}}\n" for block in blocks if block not in programs)
+        self.assertTrue(programs and parts)
+        for text in [*programs, HOST + parts + "}\n"]:
+            self.assertEqual(compiled(text, "-fsyntax-only"), "")
 
-    def test_each_crate_is_drawn(self):
-        """In docs/layers.svg, which `tools/draw_layers.py` makes. Crates that only tests use are not drawn."""
-        drawn = set(re.findall(r">(\w+)</text>", read("docs/layers.svg")))
-        above = {it: re.findall(rf"^(\w+)[^:\n]*:.*\b{it}\b", read("crates.txt"), flags=re.M) for it in CODES.crates}
-        kept = {it for it in CODES.crates if not all(name.endswith("_tests") for name in above[it] or [it])}
-        self.assertEqual(kept - drawn, set())
+    @unittest.skipUnless(os.path.isfile(LIBRARY), "the library is not built")
+    def test_the_first_program_of_the_guide_prints_hello(self):
+        text = re.search(r"^```c\n(#include.*?)^```$", read("docs/guide.md"), flags=re.M | re.S)[1]
+        with tempfile.TemporaryDirectory() as folder:
+            made = os.path.join(folder, "first")
+            self.assertEqual(compiled(text, "-o", made, "-x", "none", LIBRARY), "")
+            self.assertEqual(subprocess.run([made], stdout=subprocess.PIPE, text=True).stdout, "hello\n")
 
-    def test_numbers_of_definitions_are_those_that_are_counted(self):
-        """Those of the headline, and of each clause beside it, in docs/trust.md."""
-        page, headline = read("docs/trust.md"), ["quic_exchange.specs.Headline:Headline", "quic_exchange.specs.History:past_of"]
-        said = re.search(r"(\d+) definitions\s+on (\d+) lines of (\d+) files, and (\d+) types", page).groups()
-        self.assertEqual(counted(*headline), said)
-        self.assertIn(f" {said[0]} definitions on {said[1]} lines", " ".join(read("README.md").split()))
-        for name in ("quic_exchange.specs.Steps:Next", "quic_history.specs.History:From"):
-            numbers = counted(name)
-            text = f"{numbers[0]} definitions on {int(numbers[1]):,} lines"
-            self.assertIn(text, " ".join(page.split()))
-        rows = re.findall(r"^ *\| `\w+` \| `(quic_exchange[\w.:]+)` \| (\d+) \| (\d+) \|$", page, flags=re.M)
-        self.assertGreaterEqual(len(rows), 7)
-        for name, *numbers in rows:
-            self.assertEqual(counted(*headline, name)[:2], tuple(numbers), name)
+    def test_each_finding_has_its_test_and_its_session(self):
+        page = read("docs/findings.md")
+        named = set(re.findall(r"fn (\w+)\(\) \{", read("tests/quinn_proto_findings.rs"))) & TESTS
+        sessions = set(re.findall(r"^\[(\w+)\]$", read("tests/sessions/findings.txt"), flags=re.M))
+        self.assertEqual({it for it in named | sessions if f"`{it}`" not in page}, set())
+
+    def test_the_pictures_are_drawn_from_the_sources(self):
+        self.assertEqual(draw_pictures.differing(), [])
+
+    def test_each_crate_is_on_the_map(self):
+        page = read("docs/architecture.md")
+        kept = {it for it in CODES.crates if not it.endswith("_tests")}
+        self.assertEqual({it for it in kept if f"`{it}`" not in page}, set())
 
     def test_a_fault_is_found(self):
         """One wrong line of each kind: each is found."""
@@ -339,28 +312,21 @@ class Docs(unittest.TestCase):
 # Wrong lines, each with the page on which it would stand.
 WRONG = [
     ("docs/rules.md", "[here](nowhere.md)"),
-    ("docs/rules.md", "[here](pair.md#nowhere)"),
-    ("docs/rules.md", "`src/nowhere.rt` of `quic_pair`"),
+    ("docs/rules.md", "[here](guide.md#nowhere)"),
+    ("docs/rules.md", "`src/nowhere.rt`"),
     ("docs/rules.md", "    python3 tools/nowhere.py"),
     ("docs/rules.md", "`is_nowhere_at_all`"),
-    ("docs/rules.md", "`Headline a b` of `quic_wire`"),
+    ("docs/rules.md", "`QS_NOWHERE`"),
     ("docs/rules.md", "`quic_wire::encode_nowhere`"),
     ("docs/rules.md", "`Pair::nowhere`"),
-    ("docs/rules.md", "Defined in `quic_exchange/specs/Steps.antt` (`TakesTurns`)."),
-    ("docs/words.md", "## The pair (`quic_exchange`)\n| `TakesTurns` | `Steps` | nothing |"),
-    ("docs/proved.md", "### quic_pair\n| a promise | `hex_field` |"),
-    ("docs/rfc.md", "| 4.1 | credit | `Pair` | `nowhere` (`quic_pair`) | `every_kind_of_step_is_answered` |"),
-    ("docs/rfc.md", "| 4.1 | credit | `Pair` | `headline` (`quic_pair`) | `nowhere` |"),
+    ("docs/theorems.md", "```antt quic_exchange.specs.Headline:Headline\nHeadline = nowhere\n```"),
+    ("docs/theorems.md", "```antt quic_exchange.specs.Headline:Nowhere\n```"),
+    ("docs/rfc.md", "| 4.1 | MUST | credit | met | `CreditFrom` | `headline` |"),
+    ("docs/rfc.md", "| 4.1 | MUST | credit | met | | |"),
+    ("docs/rfc.md", "| 4.1 | MUST | credit | perhaps | `CreditFrom` | |"),
     ("README.md", "```rust\nlet nowhere = 1;\n```"),
-    ("docs/streamsim.md", "\n## The stored run\n\n    nowhere\n"),
+    ("README.md", "you read 1 definitions (2 lines)"),
 ]
-
-
-def counted(*names):
-    """How many definitions, lines, files and types of the code have to be read for these names."""
-    tool = [sys.executable, os.path.join(ROOT, "tools", "reading_list.py"), *names]
-    last = subprocess.run(tool, stdout=subprocess.PIPE, check=True, text=True).stdout.splitlines()[-1]
-    return tuple(re.findall(r"\d+", last))
 
 
 if __name__ == "__main__":

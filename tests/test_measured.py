@@ -1,4 +1,4 @@
-"""The check numbers of the measured work (docs/PERFORMANCE.md), against numbers that were reckoned by hand: of each case in
+"""The check numbers of the measured work (docs/performance.md), against numbers that were reckoned by hand: of each case in
 `libstreambench.a`, as `tools/library_of_gate streambench` makes it, and of those that `tests/c/cases.c` does by the C interface."""
 import os
 import subprocess

@@ -1,4 +1,4 @@
-"""Whether each test that docs/tests.md names exists."""
+"""Whether each test that tests/worked_examples.txt and tests/quinn_proto_cases.txt name exists."""
 import ast
 import os
 import re
@@ -7,17 +7,18 @@ import unittest
 from test_programs import ROOT
 from test_replies import all_sessions
 
-PAGE = os.path.join(ROOT, "docs", "tests.md")
-# How many rows the tables have, at least: the worked examples, and the tests of the original.
-EXAMPLES, ORIGINALS = 80, 63
+# How many rows the files have, at least.
+LEAST = {"worked_examples.txt": 80, "quinn_proto_cases.txt": 63}
 
 
-def rows(heading):
-    """The rows of the table after a heading: the first cell, and the names of the tests in the last."""
-    with open(PAGE) as it:
-        section = it.read().split(f"\n## {heading}\n")[1].split("\n## ")[0]
-    table = [line.strip("|").split("|") for line in section.splitlines() if line.startswith("|")]
-    return [(what.strip(), re.findall(r"`([^`]+)`", run_by)) for what, run_by in table[2:]]
+def rows(name):
+    """The rows of a file: what is shown, and the names of the tests that show it."""
+    found = []
+    for line in read("tests", name).splitlines():
+        if line and not line.startswith(("#", "[")):
+            what, _, tests = line.rpartition(": ")
+            found.append((what, tests.split(", ")))
+    return found
 
 
 def read(*path):
@@ -58,15 +59,15 @@ def exists(name):
 
 class Table(unittest.TestCase):
     def test_each_test_that_is_named_exists(self):
-        for heading, least in [("Worked examples", EXAMPLES), ("Tests of the original", ORIGINALS)]:
-            found = rows(heading)
+        for name, least in LEAST.items():
+            found = rows(name)
             self.assertGreaterEqual(len(found), least)
-            self.assertEqual(len({what for what, _ in found}), len(found))
-            for what, names in found:
+            self.assertEqual(len({what for what, _ in found}), len(found), name)
+            for what, tests in found:
                 with self.subTest(what):
-                    self.assertTrue(names)
-                    for name in names:
-                        self.assertTrue(exists(name), name)
+                    self.assertTrue(tests)
+                    for test in tests:
+                        self.assertTrue(exists(test), test)
 
 
 if __name__ == "__main__":

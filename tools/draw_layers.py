@@ -1,7 +1,7 @@
 #!/usr/bin/env python3
-"""Draws the crates of crates.txt in layers, each crate above those that it depends on: docs/layers.svg.
+"""Draws all crates of crates.txt in layers, each crate above those that it depends on, for contributors.
 
-    tools/draw_layers.py
+    tools/draw_layers.py > crates.svg
 
 A line is left out where other lines lead to the same crate, and goes around the crates between its ends. Crates of tests, and crates that
 only tests use, are left out.
@@ -14,8 +14,8 @@ WIDTH, BOX, BEND, HEIGHT, ROW, TOP, LEGEND = 1060, 150, 16, 30, 74, 84, 960
 PARTS = [
     ("receive side", "#56b4e9", ("quic_assembler", "quic_ordered", "quic_receiving")),
     ("send side", "#e69f00", ("quic_sending", "quic_queue", "quic_outgoing", "quic_writing", "quic_flows", "quic_retransmits")),
-    ("one end", "#009e73", ("quic_history", "quic_streams", "quic_endpoint", "quic_session")),
-    ("two ends", "#cc79a7", ("quic_link", "quic_exchange", "quic_pair", "quic_steps")),
+    ("one endpoint", "#009e73", ("quic_history", "quic_streams", "quic_endpoint", "quic_session")),
+    ("two endpoints", "#cc79a7", ("quic_link", "quic_exchange", "quic_pair", "quic_steps", "quic_progress")),
 ]
 OTHERS, PROGRAMS = ("values, frames, and other parts", "#bbbbbb"), ("programs and libraries for others", "#f0e442")
 
@@ -115,49 +115,54 @@ def places_of(rows, arrows):
     return middle
 
 
+def legend():
+    x, out = 20, []
+    for label, color in [part[:2] for part in PARTS] + [OTHERS, PROGRAMS]:
+        out.append(f"<rect x='{x}' y='44' width='16' height='16' rx='3' fill='{color}' fill-opacity='0.45' stroke='{color}'/>")
+        out.append(f"<text x='{x + 22}' y='57'>{label}</text>")
+        x += 50 + 7 * len(label)
+    return out
+
+
+def lines(joins, middle, y):
+    out = ["<g fill='none' stroke='#888' stroke-width='1.2'>"]
+    for name in joins:
+        for dep in joins[name]:
+            (x1, y1), (x2, y2) = (middle[name], y[name] + HEIGHT), (middle[dep], y[dep])
+            bend, through = (y2 - y1) / 2, "" if isinstance(dep, str) else f"V{y2 + HEIGHT}"
+            out.append(f"<path d='M{x1:.0f} {y1}C{x1:.0f} {y1 + bend:.0f} {x2:.0f} {y2 - bend:.0f} {x2:.0f} {y2}{through}'/>")
+    return out + ["</g>"]
+
+
+def boxes(deps, middle, y):
+    for name in deps:
+        color, place = color_of(deps, name), f"x='{middle[name] - BOX / 2:.0f}' y='{y[name]}' width='{BOX}' height='{HEIGHT}' rx='6'"
+        yield f"<rect {place} fill='white'/>"
+        yield f"<rect {place} fill='{color}' fill-opacity='0.45' stroke='{color}'/>"
+        yield f"<text x='{middle[name]:.0f}' y='{y[name] + 20}' text-anchor='middle'>{name}</text>"
+
+
 def main():
-    deps = read_crates()
-    known = {}
+    deps, known = read_crates(), {}
     for name in deps:
         below(deps, name, known)
     arrows = {name: [dep for dep in deps[name] if not any(dep in known[other] for other in deps[name])] for name in deps}
-    rows = ranks_of(deps, arrows)
-    rows, joins = with_bends(rows, arrows)
+    rows, joins = with_bends(ranks_of(deps, arrows), arrows)
     middle = places_of(rows, joins)
     left = min(x - width_of(name) / 2 for name, x in middle.items()) - 20
     middle = {name: x - left for name, x in middle.items()}
     right = max(x + width_of(name) / 2 for name, x in middle.items())
     width, height = max(LEGEND, round(right + 20)), TOP + ROW * len(rows)
     y = {name: height - ROW * (index + 1) + 20 for index, row in enumerate(rows) for name in row}
+    title = "The crates, each above those that it depends on"
     out = [
         f"<svg xmlns='http://www.w3.org/2000/svg' viewBox='0 0 {width} {height}' width='{width}' height='{height}' role='img'>",
-        "<title>The crates in layers: each stands above those that it depends on</title>",
+        f"<title>{title}</title>",
         f"<rect width='{width}' height='{height}' rx='8' fill='white'/>",
         "<g font-family='sans-serif' font-size='14'>",
-        "<text x='20' y='28' font-size='18'>The crates, each above those that it depends on</text>",
+        f"<text x='20' y='28' font-size='18'>{title}</text>",
     ]
-    x = 20
-    for label, color in [part[:2] for part in PARTS] + [OTHERS, PROGRAMS]:
-        out.append(f"<rect x='{x}' y='44' width='16' height='16' rx='3' fill='{color}' fill-opacity='0.45' stroke='{color}'/>")
-        out.append(f"<text x='{x + 22}' y='57'>{label}</text>")
-        x += 50 + 7 * len(label)
-    out.append("<g fill='none' stroke='#888' stroke-width='1.2'>")
-    for name in joins:
-        for dep in joins[name]:
-            (x1, y1), (x2, y2) = (middle[name], y[name] + HEIGHT), (middle[dep], y[dep])
-            bend, through = (y2 - y1) / 2, "" if isinstance(dep, str) else f"V{y2 + HEIGHT}"
-            out.append(f"<path d='M{x1:.0f} {y1}C{x1:.0f} {y1 + bend:.0f} {x2:.0f} {y2 - bend:.0f} {x2:.0f} {y2}{through}'/>")
-    out.append("</g>")
-    for name in deps:
-        color, left = color_of(deps, name), middle[name] - BOX / 2
-        out.append(f"<rect x='{left:.0f}' y='{y[name]}' width='{BOX}' height='{HEIGHT}' rx='6' fill='white'/>")
-        out.append(
-            f"<rect x='{left:.0f}' y='{y[name]}' width='{BOX}' height='{HEIGHT}' rx='6' fill='{color}' fill-opacity='0.45' stroke='{color}'/>"
-        )
-        out.append(f"<text x='{middle[name]:.0f}' y='{y[name] + 20}' text-anchor='middle'>{name}</text>")
-    out.append("</g></svg>")
-    with open(os.path.join(ROOT, "docs", "layers.svg"), "w") as file:
-        file.write("\n".join(out) + "\n")
+    print("\n".join([*out, *legend(), *lines(joins, middle, y), *boxes(deps, middle, y), "</g></svg>"]))
 
 
 if __name__ == "__main__":

@@ -5,7 +5,7 @@
 
 PROGRAM is streampair linked with allocator.c. The sessions are those of the files, two in which pieces are compacted,
 and one of 100 steps for each seed from FIRST to LAST. A step that names want of memory is asked again, and the replies
-are held against those of ample memory. The status is 0 where every run is as docs/hostile.md says.
+are held against those of ample memory. The status is 0 where every run is as docs/security.md says.
 """
 import bisect
 import collections
