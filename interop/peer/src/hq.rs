@@ -7,7 +7,7 @@ use crate::site::Site;
 use crate::stream::send_rest;
 use anyhow::Context;
 use bytes::Bytes;
-use quinn::{Connection, RecvStream, SendStream, VarInt};
+use quinn::{Connection, RecvStream, SendStream, VarInt, WriteError};
 use std::rc::Rc;
 use tokio::task::spawn_local;
 
@@ -49,7 +49,11 @@ pub async fn request(connection: &Connection, request: &Request) -> anyhow::Resu
     let (mut send, mut receive) = connection.open_bi().await?;
     let line = format!("GET {}\r\n", request.path);
     send.write_all(line.as_bytes()).await?;
-    send.finish().await?;
+    // A server that has read the line may stop the stream before its FIN is acknowledged.
+    match send.finish().await {
+        Ok(()) | Err(WriteError::Stopped(_)) => {}
+        Err(error) => return Err(error.into()),
+    }
     let mut body = Body::new();
     if let Reading::Unordered = request.reading {
         body.add(&read_unordered(&mut receive).await?);
