@@ -10,6 +10,7 @@ use std::test::Fail;
 mod body;
 mod cases;
 mod floods;
+mod orders;
 mod replays;
 mod sizes;
 

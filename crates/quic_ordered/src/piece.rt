@@ -257,6 +257,31 @@ impl Piece {
         Ok(())
     }
 
+    /// Puts the bytes of a piece that ends where this one begins before its own, which are as many or more. If refused, all
+    /// is as it was. Where it is moved for that, up to half as much memory as it has bytes is left free before it.
+    pub(crate) fn prepend(&mut self, before: &Piece) -> Result<(), OutOfMemory>
+        requires touch { run_end before.now ≡ self.old.offset }
+        requires short { length before.now.bytes ≤ length self.old.bytes }
+        ensures ok { OnOk result (self.new ≡ joined_with before.now self.old) }
+        ensures err { OnErr result (self.new ≡ self.old) }
+    {
+        let bytes = &before.content.as_slice()[before.start..];
+        let more = bytes.len();
+        let length = self.content.len() - self.start;
+        if self.start < more {
+            let own = &self.content.as_slice()[self.start..];
+            let room = more + (length - more) / 2;
+            // The free memory is filled with some bytes, whatever they are.
+            self.content = joined(&own[..room], own, *self.content.allocator())?;
+            self.start = room;
+        }
+        self.start -= more;
+        write_at(&mut self.content, self.start, bytes);
+        self.offset = before.offset;
+        self.allocation_size = more + length;
+        Ok(())
+    }
+
     /// Appends bytes. If refused, all is as it was. Where it keeps much more memory alive than its bytes take, it moves.
     pub(crate) fn append_bytes(&mut self, bytes: &[u8]) -> Result<(), OutOfMemory>
         requires { run_end self.old + length bytes.now < 2 ^ 62 }

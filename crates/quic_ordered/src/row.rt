@@ -3,7 +3,7 @@ ghost use Rattle.std.specs.Prelude.{◌≡◌, ℕ, ◌+◌, ◌-◌, ◌^◌, �
 ghost use Rattle.std.specs.List.{All, Any};
 ghost use Rattle.quic_assembler.specs.Piece.{PieceView, run_end, run_length, run_allocation, bit, cover_count};
 ghost use Rattle.quic_ranges.specs.Runs.{contains};
-ghost use Rattle.quic_ordered.specs.Rows.{Row, FitsWords, JoinsLast, LieInOrder, BeginUpTo, LieWithGaps, IsTidy, Encloses, tidied};
+ghost use Rattle.quic_ordered.specs.Rows.{Row, FitsWords, JoinsLast, LieInOrder, BeginUpTo, LieWithGaps, IsTidy, Encloses, tidied, joined_with};
 
 use crate::piece::Piece;
 use quic_ranges::RangeSet;
@@ -362,11 +362,33 @@ impl PieceRow {
         let Some(mut last) = self.pop_back() else {
             unreachable!();
         };
+        if last.len() < piece.len() {
+            return self.put_joined_behind(last, piece);
+        }
         let joined = last.append(&piece);
         self.put_back(last);
         match joined {
             Ok(()) => Ok(()),
             Err(_) => Err(piece),
         }
+    }
+
+    // Joins two pieces, the second of which begins where the first one ends and is as long or longer, and puts them behind
+    // all others. There is room. Without memory the first one is put there, and the second given back.
+    fn put_joined_behind(&mut self, first: Piece, mut second: Piece) -> Result<(), Piece>
+        requires room { length self.old.runs < self.old.room }
+        requires touch { run_end first ≡ second.offset }
+        requires short { length first.bytes ≤ length second.bytes }
+        ensures put { OnOk result (self.new.runs ≡ self.old.runs ++ joined_with first second ∷ []) }
+        ensures back { IfErr result (λ given. given ≡ second) }
+        ensures err { OnErr result (self.new.runs ≡ self.old.runs ++ first ∷ []) }
+        ensures room { self.new.room ≡ self.old.room }
+    {
+        if second.prepend(&first).is_err() {
+            self.put_back(first);
+            return Err(second);
+        }
+        self.put_back(second);
+        Ok(())
     }
 }

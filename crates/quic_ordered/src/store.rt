@@ -22,6 +22,9 @@ use std::alloc::Global;
 use std::marker::Model;
 use std::ops::Range;
 
+// The most bytes of the pieces of a map that are joined where they lie.
+const MOST_IN_PLACE: u128 = 1 << 21;
+
 /// Pieces of one stream, none of which overlaps another. Contracts see them by rising offset.
 ///
 /// What comes behind all that is held goes to the end of a row, and what overlaps nothing and comes near one end of the
@@ -420,8 +423,9 @@ impl PieceStore {
     /// Joins all pieces that touch, and copies each other one that keeps more than a fifth more memory alive than it
     /// has bytes. If refused, the same bytes are held, in as many pieces or fewer.
     ///
-    /// Where most pieces are in the map, they are joined where they lie, and those of the row go to them. Else all go to
-    /// the row.
+    /// Where most pieces are in the map, and they are not long together, they are joined where they lie, and those of the
+    /// row go to them. Else all go to the row, where the shorter one of two that touch is copied, so that no order in which
+    /// pieces come makes the longest one move again and again.
     pub(crate) fn compact(&mut self) -> Result<(), OutOfMemory>
         ensures same { HoldSame self.old self.new }
         ensures order { (low : ℕ) → LieInOrder low self.old → LieInOrder low self.new }
@@ -430,7 +434,7 @@ impl PieceStore {
         ensures tidy { OnOk result (All IsTidy self.new) }
         ensures memory { All (IsKeptOrOwn self.old) self.new }
     {
-        if self.gaps.len() <= self.row.len() {
+        if self.gaps.len() <= self.row.len() || self.gaps.total() > MOST_IN_PLACE {
             return self.compact_row();
         }
         self.compact_map()

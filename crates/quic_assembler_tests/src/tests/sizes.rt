@@ -7,7 +7,7 @@ fn next_seed(seed: u32) -> u32 {
     seed.wrapping_mul(1_664_525).wrapping_add(1_013_904_223)
 }
 
-fn draw(alloc: Global, seed: u32, count: usize) -> Result<Vec<u8>, AllocError> {
+pub(super) fn draw(alloc: Global, seed: u32, count: usize) -> Result<Vec<u8>, AllocError> {
     let mut bytes = Vec::new(alloc);
     let mut seed = seed;
     for _ in 0..count {
