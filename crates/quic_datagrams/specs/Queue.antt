@@ -14,6 +14,11 @@ abbrev pub total_cost : List Datagram → ℕ
 total_cost [] = 0
 total_cost (d ∷ ds) = cost d + total_cost ds
 
+-- the length of the oldest datagram, if one waits
+abbrev pub oldest_length : List Datagram → Option ℕ
+oldest_length [] = None
+oldest_length (d ∷ ds) = Some (length d.bytes)
+
 -- the longest end of a queue that counts at most n
 abbrev pub newest_within : ℕ → List Datagram → List Datagram
 newest_within n [] = []

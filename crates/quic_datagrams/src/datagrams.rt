@@ -3,7 +3,7 @@
 ghost use Rattle.std.specs.Prelude.{◌≡◌, ◌+◌, ◌-◌, ◌<◌, ◌≤◌, ◌^◌, ◌++◌, ◌==◌, ◌&&◌, [], ◌∷◌, List, true, false, not, length, nat_lt, nat_le, MatchOption, IfOk, IfErr, OnOk, OnErr, IsSomeAnd, None, vec_len, vec_capacity};
 ghost use Rattle.std.specs.VecDeque.{deque_len, deque_capacity};
 ghost use Rattle.quic_datagrams.specs.Sending.{send_refusal, IsSendRefusal, after_refusal};
-ghost use Rattle.quic_datagrams.specs.Queue.{cost, total_cost, newest_within, with_newest, no_longer_than, fits_in, oldest_fits_in, ends_within, IsWritten, IsReceiveRefusal, JoinsWithin};
+ghost use Rattle.quic_datagrams.specs.Queue.{cost, total_cost, oldest_length, newest_within, with_newest, no_longer_than, fits_in, oldest_fits_in, ends_within, IsWritten, IsReceiveRefusal, JoinsWithin};
 
 use quic_wire::frame::Datagram;
 use quic_wire::{Bytes, OutOfMemory, ReceiveError, TransportError};
@@ -86,6 +86,24 @@ impl DatagramBuffer {
         ensures { result ≡ (length self.now == 0) }
     {
         self.queue.is_empty()
+    }
+
+    /// How many datagrams wait.
+    #[inline]
+    pub fn len(&self) -> usize
+        ensures { result ≡ length self.now }
+    {
+        self.queue.len()
+    }
+
+    /// How many bytes the oldest datagram has, if one waits.
+    pub fn oldest_length(&self) -> Option<usize>
+        ensures { result ≡ oldest_length self.now }
+    {
+        match self.queue.front() {
+            Some(oldest) => Some(oldest.bytes.len()),
+            None => None,
+        }
     }
 
     /// What the datagrams count together: their lengths, and 32 each.

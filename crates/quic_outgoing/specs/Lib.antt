@@ -11,3 +11,4 @@ pub mod Shown
 pub mod History
 pub mod Transmitting
 pub mod Early
+pub mod Rooms

@@ -12,10 +12,10 @@ ghost use Rattle.quic_outgoing.specs.Shown.{outgoing_view, permit_room};
 use crate::closing::queue_at;
 use crate::entries::SendEntries;
 use crate::outgoing::OutgoingStreams;
+use crate::spare::SpareHalves;
 use crate::transmitting::take_half;
 use quic_sending::Send;
 use quic_values::{OutOfMemory, StreamId, VarInt};
-use std::alloc::Global;
 use std::ops::Range;
 
 #[tactic(auto, unfolding(crate::specs::Shown::outgoing_view, crate::specs::Shown::permit_room), using(crate::proofs::SenderMaps::sender_steps, crate::proofs::Histories::continues))]
@@ -147,7 +147,7 @@ impl SendEntries {
         let limit = self.first_limit(id);
         match self.entries.get_mut(&id) {
             None => Ok(None),
-            Some(entry) => ack_of_entry(self.alloc, limit, entry, offsets, fin),
+            Some(entry) => ack_of_entry(&mut self.spare, limit, entry, offsets, fin),
         }
     }
 
@@ -170,7 +170,7 @@ impl SendEntries {
         let limit = self.first_limit(id);
         match self.entries.get_mut(&id) {
             None => Ok(None),
-            Some(entry) => loss_of_entry(self.alloc, limit, entry, offsets, fin),
+            Some(entry) => loss_of_entry(&mut self.spare, limit, entry, offsets, fin),
         }
     }
 }
@@ -178,7 +178,7 @@ impl SendEntries {
 // A frame is acknowledged on the half of an entry.
 #[inline]
 fn ack_of_entry(
-    alloc: Global,
+    spare: &mut SpareHalves,
     limit: VarInt,
     entry: &mut Option<Box<Send>>,
     offsets: Range<u64>,
@@ -188,7 +188,7 @@ fn ack_of_entry(
     ensures err { OnErr result (sender_in limit entry.new ≡ sender_in limit entry.old) }
     ensures memory { OnErr result (MayWantMemory offsets (Some (sender_in limit entry.old))) }
 {
-    let mut half = take_half(alloc, limit, entry)?;
+    let mut half = take_half(spare, limit, entry)?;
     let acked = ack_on(&mut half, offsets, fin);
     *entry = Some(half);
     acked
@@ -215,7 +215,7 @@ fn ack_on(half: &mut Send, offsets: Range<u64>, fin: bool) -> Result<Option<Acke
 // A frame is lost of the half of an entry.
 #[inline]
 fn loss_of_entry(
-    alloc: Global,
+    spare: &mut SpareHalves,
     limit: VarInt,
     entry: &mut Option<Box<Send>>,
     offsets: Range<u64>,
@@ -225,7 +225,7 @@ fn loss_of_entry(
     ensures err { OnErr result (sender_in limit entry.new ≡ sender_in limit entry.old) }
     ensures memory { OnErr result (LossMayWantMemory offsets (Some (sender_in limit entry.old))) }
 {
-    let mut half = take_half(alloc, limit, entry)?;
+    let mut half = take_half(spare, limit, entry)?;
     let queue_at = lose_on(&mut half, offsets, fin);
     *entry = Some(half);
     queue_at

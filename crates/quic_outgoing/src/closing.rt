@@ -10,12 +10,12 @@ ghost use Rattle.quic_outgoing.specs.Shown.{outgoing_view, permit_room};
 
 use crate::entries::SendEntries;
 use crate::outgoing::OutgoingStreams;
+use crate::spare::SpareHalves;
 use crate::transmitting::take_half;
 use quic_queue::SendQueue;
 use quic_retransmits::Retransmits;
 use quic_sending::{ClosedStream, FinishError, HandleError, Send};
 use quic_values::{OutOfMemory, StreamId, VarInt};
-use std::alloc::Global;
 
 #[tactic(auto, unfolding(crate::specs::Shown::outgoing_view, crate::specs::Shown::permit_room), using(crate::proofs::SenderMaps::sender_steps, crate::proofs::Histories::continues))]
 impl OutgoingStreams {
@@ -137,7 +137,7 @@ impl SendEntries {
         let limit = self.first_limit(id);
         match self.entries.get_mut(&id) {
             None => Err(FinishError::ClosedStream),
-            Some(entry) => finish_entry(self.alloc, limit, entry, queue),
+            Some(entry) => finish_entry(&mut self.spare, limit, entry, queue),
         }
     }
 
@@ -170,7 +170,7 @@ fn refusal_of_end(half: &Send) -> Option<FinishError>
 // Ends the stream of an entry. If refused, nothing changes but the room in the queue.
 #[inline]
 fn finish_entry(
-    alloc: Global,
+    spare: &mut SpareHalves,
     limit: VarInt,
     entry: &mut Option<Box<Send>>,
     queue: &mut SendQueue,
@@ -182,7 +182,7 @@ fn finish_entry(
     ensures refused { OnErr result (MayMakeRoom (Some (sender_in limit entry.old)) queue.old queue.new) }
     ensures half { OnErr result (sender_in limit entry.new ≡ sender_in limit entry.old) }
 {
-    let mut half = take_half(alloc, limit, entry)?;
+    let mut half = take_half(spare, limit, entry)?;
     let answer = finish_half(&mut half, queue);
     *entry = Some(half);
     answer

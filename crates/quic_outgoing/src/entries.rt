@@ -12,6 +12,7 @@ ghost use Rattle.quic_sending.specs.Buffer.{is_acked};
 ghost use Rattle.quic_sending.specs.Sending.{is_reset_sent};
 
 use crate::closing::queue_at;
+use crate::spare::SpareHalves;
 use quic_sending::{ClosedStream, Send};
 use quic_values::{Dir, OutOfMemory, Side, StreamId, VarInt};
 use std::alloc::Global;
@@ -83,6 +84,7 @@ pub struct SendEntries {
     first: FirstLimits,
     // `None` is a half to which nothing was written.
     pub(crate) entries: HashMap<StreamId, Option<Box<Send>>>,
+    pub(crate) spare: SpareHalves,
 }
 
 #[tactic(auto, unfolding(crate::specs::Seen::senders, crate::specs::Senders::with_sender))]
@@ -98,6 +100,7 @@ impl SendEntries {
             side,
             first: FirstLimits::none(),
             entries: HashMap::new(alloc),
+            spare: SpareHalves::new(alloc),
         }
     }
 
@@ -183,7 +186,7 @@ impl SendEntries {
                 Ok(Some(half))
             }
             None => {
-                let half = Box::new(self.alloc, Send::new(self.alloc, limit))?;
+                let half = self.spare.make(limit)?;
                 Ok(Some(half))
             }
         }
@@ -292,7 +295,8 @@ impl SendEntries {
         ensures first { self.new.first ≡ self.old.first }
         ensures room { sender_room self.old ≤ sender_room self.new }
     {
-        let _ = self.entries.remove(&id);
+        let entry = self.entries.remove(&id);
+        self.spare.keep(entry);
     }
 
     /// The halves of this end's streams go. Those of its peer's are new, with no limit.

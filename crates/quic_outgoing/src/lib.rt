@@ -11,6 +11,8 @@ mod params;
 mod peer;
 mod permits;
 mod polling;
+mod rooms;
+mod spare;
 mod transmitting;
 mod waiting;
 mod writing;

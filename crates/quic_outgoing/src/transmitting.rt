@@ -12,10 +12,10 @@ ghost use Rattle.quic_outgoing.specs.Shown.{outgoing_view, permit_room};
 
 use crate::entries::SendEntries;
 use crate::outgoing::OutgoingStreams;
+use crate::spare::SpareHalves;
 use quic_sending::{Send, SendState};
 use quic_values::{OutOfMemory, StreamId, VarInt};
 use quic_wire::frame::StreamMeta;
-use std::alloc::Global;
 
 /// A STREAM frame that was written.
 #[derive(Clone, Debug, Drop, PartialEq, Eq)]
@@ -115,7 +115,7 @@ impl SendEntries {
         let limit = self.first_limit(id);
         match self.entries.get_mut(&id) {
             None => unreachable!(),
-            Some(entry) => append_of_entry(self.alloc, limit, entry, id, max_size, buf),
+            Some(entry) => append_of_entry(&mut self.spare, limit, entry, id, max_size, buf),
         }
     }
 
@@ -142,7 +142,7 @@ impl SendEntries {
         if !is_sending_at(entry, priority) {
             return Ok(None);
         }
-        let frame = append_of_entry(self.alloc, first_limit, entry, id, max_size, buf)?;
+        let frame = append_of_entry(&mut self.spare, first_limit, entry, id, max_size, buf)?;
         Ok(Some(frame))
     }
 }
@@ -162,7 +162,7 @@ fn is_sending_at(entry: &Option<Box<Send>>, priority: i32) -> bool
 // Takes the half of an entry out, to be put back. It is made where nothing was written yet.
 #[inline]
 pub(crate) fn take_half(
-    alloc: Global,
+    spare: &mut SpareHalves,
     limit: VarInt,
     entry: &mut Option<Box<Send>>,
 ) -> Result<Box<Send>, OutOfMemory>
@@ -173,7 +173,7 @@ pub(crate) fn take_half(
     match entry.take() {
         Some(half) => Ok(half),
         None => {
-            let half = Box::new(alloc, Send::new(alloc, limit))?;
+            let half = spare.make(limit)?;
             Ok(half)
         }
     }
@@ -182,7 +182,7 @@ pub(crate) fn take_half(
 // Appends the next frame of an entry's half. If refused, nothing changes.
 #[inline(always)]
 fn append_of_entry(
-    alloc: Global,
+    spare: &mut SpareHalves,
     limit: VarInt,
     entry: &mut Option<Box<Send>>,
     id: StreamId,
@@ -194,7 +194,7 @@ fn append_of_entry(
     ensures half { OnErr result (sender_in limit entry.new ≡ sender_in limit entry.old) }
     ensures bytes { OnErr result (buf.new.items ≡ buf.old.items) }
 {
-    let mut half = take_half(alloc, limit, entry)?;
+    let mut half = take_half(spare, limit, entry)?;
     let written = append_frame(&mut half, id, max_size, buf);
     *entry = Some(half);
     written

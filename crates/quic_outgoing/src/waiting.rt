@@ -11,10 +11,10 @@ ghost use Rattle.quic_outgoing.specs.Waits.{WaitsOn, WaitsIn, RaisesOn, RaisesIn
 
 use crate::entries::{SendEntries, greater};
 use crate::limits::PeerLimits;
+use crate::spare::SpareHalves;
 use crate::transmitting::take_half;
 use quic_sending::Send;
 use quic_values::{OutOfMemory, StreamId, VarInt};
-use std::alloc::Global;
 
 // What a limit that was given did to a half.
 #[derive(Clone, Copy)]
@@ -41,7 +41,7 @@ impl SendEntries {
         match self.entries.get_mut(&id) {
             None => Ok(None),
             Some(entry) => {
-                let joins = wait_of_entry(self.alloc, limit, entry)?;
+                let joins = wait_of_entry(&mut self.spare, limit, entry)?;
                 Ok(Some(joins))
             }
         }
@@ -105,7 +105,7 @@ impl SendEntries {
         let limit = self.first_limit(id);
         match self.entries.get_mut(&id) {
             None => Ok(()),
-            Some(entry) => make_entry(self.alloc, limit, entry),
+            Some(entry) => make_entry(&mut self.spare, limit, entry),
         }
     }
 
@@ -142,7 +142,7 @@ impl SendEntries {
         match self.entries.get_mut(&id) {
             None => Ok(None),
             Some(entry) => {
-                let raised = raise_of_entry(self.alloc, limit, entry, offset, stuck)?;
+                let raised = raise_of_entry(&mut self.spare, limit, entry, offset, stuck)?;
                 Ok(Some(raised))
             }
         }
@@ -163,14 +163,14 @@ pub(crate) fn join_waiting(blocked: &mut Vec<StreamId>, id: StreamId, joins: boo
 // The stream of an entry waits. Answers whether it is to be put on the list of those that do.
 #[inline]
 fn wait_of_entry(
-    alloc: Global,
+    spare: &mut SpareHalves,
     limit: VarInt,
     entry: &mut Option<Box<Send>>,
 ) -> Result<bool, OutOfMemory>
     ensures ok { IfOk result (λ joins. WaitsOn (sender_in limit entry.old) joins (sender_in limit entry.new)) }
     ensures err { OnErr result (sender_in limit entry.new ≡ sender_in limit entry.old) }
 {
-    let mut half = take_half(alloc, limit, entry)?;
+    let mut half = take_half(spare, limit, entry)?;
     let joins = !half.connection_blocked;
     half.connection_blocked = true;
     *entry = Some(half);
@@ -179,7 +179,7 @@ fn wait_of_entry(
 
 // Makes the half of an entry that was not used.
 fn make_entry(
-    alloc: Global,
+    spare: &mut SpareHalves,
     limit: VarInt,
     entry: &mut Option<Box<Send>>,
 ) -> Result<(), OutOfMemory>
@@ -188,7 +188,7 @@ fn make_entry(
     ensures kept { is_some entry.old ≡ true → is_some entry.new ≡ true }
 {
     if entry.is_none() {
-        let half = Box::new(alloc, Send::new(alloc, limit))?;
+        let half = spare.make(limit)?;
         *entry = Some(half);
     }
     Ok(())
@@ -223,7 +223,7 @@ fn unmark_entry(entry: &mut Option<Box<Send>>)
 // The half of an entry is given a limit.
 #[inline]
 fn raise_of_entry(
-    alloc: Global,
+    spare: &mut SpareHalves,
     limit: VarInt,
     entry: &mut Option<Box<Send>>,
     offset: u64,
@@ -232,7 +232,7 @@ fn raise_of_entry(
     ensures ok { IfOk result (λ raised. RaisesOn offset stuck (sender_in limit entry.old) raised (sender_in limit entry.new)) }
     ensures err { OnErr result (sender_in limit entry.new ≡ sender_in limit entry.old) }
 {
-    let mut half = take_half(alloc, limit, entry)?;
+    let mut half = take_half(spare, limit, entry)?;
     half.max_data = greater(half.max_data, limit);
     let raised = raise_on(&mut half, offset, stuck);
     *entry = Some(half);

@@ -14,13 +14,13 @@ ghost use Rattle.quic_outgoing.specs.Shown.{outgoing_view, permit_room};
 use crate::closing::{queue_at, reserve_for};
 use crate::entries::{SendEntries, greater};
 use crate::outgoing::OutgoingStreams;
+use crate::spare::SpareHalves;
 use crate::transmitting::take_half;
 use crate::waiting::join_waiting;
 use quic_queue::SendQueue;
 use quic_retransmits::Retransmits;
 use quic_sending::{BytesSource, Send, WriteError, Written};
 use quic_values::{StreamId, VarInt};
-use std::alloc::Global;
 
 /// What a write took, and what is to be queued for it.
 #[derive(Clone, Copy, Debug, PartialEq, Eq)]
@@ -188,7 +188,14 @@ impl SendEntries {
         let first_limit = self.first_limit(id);
         match self.entries.get_mut(&id) {
             None => Err(WriteError::ClosedStream),
-            Some(entry) => write_of_entry(self.alloc, first_limit, entry, queue, source, limit),
+            Some(entry) => write_of_entry(
+                &mut self.spare,
+                first_limit,
+                entry,
+                queue,
+                source,
+                limit,
+            ),
         }
     }
 }
@@ -209,7 +216,7 @@ fn refusal_of_half(half: &Send) -> Option<WriteError>
 // Writes on the half of an entry. If refused, nothing changes but the room in the queue.
 #[inline]
 fn write_of_entry<S: BytesSource>(
-    alloc: Global,
+    spare: &mut SpareHalves,
     first_limit: VarInt,
     entry: &mut Option<Box<Send>>,
     queue: &mut SendQueue,
@@ -226,7 +233,7 @@ fn write_of_entry<S: BytesSource>(
     ensures borrow { S.borrow source.new ≡ S.borrow source.old }
     ensures list_count { S.list_count source.new ≡ S.list_count source.old }
 {
-    let mut half = take_half(alloc, first_limit, entry)?;
+    let mut half = take_half(spare, first_limit, entry)?;
     half.max_data = greater(half.max_data, first_limit);
     let wrote = write_on(&mut half, queue, source, limit);
     *entry = Some(half);

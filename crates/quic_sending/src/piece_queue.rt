@@ -8,6 +8,9 @@ use std::alloc::Global;
 use std::collections::VecDeque;
 use std::marker::Model;
 
+// A queue that is used again keeps memory for at most so many pieces.
+const KEPT_PIECES: usize = 4;
+
 // A written piece, and the offset of its first byte.
 #[derive(Drop)]
 struct Piece {
@@ -151,6 +154,17 @@ impl PieceQueue {
         &piece.bytes.as_slice()[at as usize..end as usize]
     }
 
+    /// Makes it as [`PieceQueue::new`] does. It keeps memory for at most four pieces.
+    #[inline]
+    pub(crate) fn renew(&mut self, alloc: Global)
+        ensures { self.new ≡ record { held = []; gone = 0; end = 0; room = self.new.room } }
+    {
+        empty(&mut self.pieces, alloc);
+        self.gone = 0;
+        self.end = 0;
+        self.hint = 0;
+    }
+
     /// Drops all pieces. The end stays.
     pub(crate) fn clear(&mut self)
         ensures same { self.new ≡ record self.old { held = []; gone = self.old.end; room = self.new.room } }
@@ -158,6 +172,18 @@ impl PieceQueue {
     {
         self.pieces.clear();
         self.gone = self.end;
+    }
+}
+
+// Lets all pieces go, and memory for more than a few.
+#[inline]
+fn empty(pieces: &mut VecDeque<Piece>, alloc: Global)
+    ensures { pieces.new.items ≡ [] }
+{
+    if pieces.capacity() > KEPT_PIECES {
+        *pieces = VecDeque::new(alloc);
+    } else {
+        pieces.clear();
     }
 }
 

@@ -164,6 +164,41 @@ impl Send {
         }
     }
 
+    /// Makes it as [`Send::new`] does. It keeps memory for at most four pieces.
+    pub fn renew(&mut self, max_data: VarInt)
+        ensures fields { self.new ≡ record {
+          max_data = max_data;
+          state = SendState.Ready;
+          pending = self.new.pending;
+          priority = pos 0;
+          fin_pending = false;
+          connection_blocked = false;
+          data_blocked_limit = None;
+          stop_reason = None;
+        } }
+        ensures empty { self.new.pending ≡ record {
+          offset = 0;
+          unsent = 0;
+          prefix = 0;
+          later = [];
+          lost = [];
+          held = [];
+          gone = 0;
+          room = self.new.pending.room;
+        } }
+        ensures sound { IsSound self.new.pending }
+        ensures cuts { HasCuts [] self.new.pending }
+    {
+        self.pending.renew();
+        self.max_data = max_data;
+        self.state = SendState::Ready;
+        self.priority = 0;
+        self.fin_pending = false;
+        self.connection_blocked = false;
+        self.data_blocked_limit = None;
+        self.stop_reason = None;
+    }
+
     /// Whether the stream was reset.
     #[inline]
     pub fn is_reset(&self) -> bool

@@ -348,6 +348,26 @@ impl SendBuffer {
         self.unsent = 0;
     }
 
+    /// Makes it as [`SendBuffer::new`] does. It keeps memory for at most four pieces.
+    pub fn renew(&mut self)
+        ensures empty { self.new ≡ record {
+          offset = 0;
+          unsent = 0;
+          prefix = 0;
+          later = [];
+          lost = [];
+          held = [];
+          gone = 0;
+          room = self.new.room;
+        } }
+        ensures sound { IsSound self.new }
+        ensures cuts { HasCuts [] self.new }
+    {
+        self.pieces.renew(self.alloc);
+        self.unsent = 0;
+        self.outcomes = Outcomes::up_to(self.alloc, 0);
+    }
+
     /// Drops all bytes. Every offset counts as sent and acknowledged.
     pub fn discard(&mut self)
         ensures same { self.new ≡ record {

@@ -9,11 +9,11 @@ ghost use Rattle.quic_streams.specs.InPlace.{mode_of, AsksHalf};
 ghost use Rattle.quic_streams.specs.HalfReads.{GivesOn, LastOn, ReadsSomeOn, is_due_after};
 
 use crate::halves::{ask_on, is_window_due_on, read_on};
+use crate::spare::SpareHalves;
 use quic_assembler::Chunk;
 use quic_history::progress::LastAnswer;
 use quic_receiving::{ReadableError, Recv};
 use quic_values::VarInt;
-use std::alloc::Global;
 
 /// What several reads of a half gave.
 #[derive(Drop)]
@@ -31,7 +31,7 @@ pub struct HalfReads {
 // there is room.
 #[inline]
 pub(crate) fn read_some_on(
-    alloc: Global,
+    spare: &mut SpareHalves,
     window: VarInt,
     entry: &mut Option<Box<Recv>>,
     ordered: bool,
@@ -46,7 +46,7 @@ pub(crate) fn read_some_on(
     ensures due { IfOk result (λ r. r.window_due ≡ is_due_after r.last window (Some (half_in window entry.new))) }
     ensures refused { IfErr result (λ error. AsksHalf (half_in window entry.old) ordered (Err error) (half_in window entry.new)) }
 {
-    ask_on(alloc, window, entry, ordered)?;
+    ask_on(spare, window, entry, ordered)?;
     let (chunks, last, read) = read_chunks_on(entry, ordered, max_length, times, list);
     let window_due = !last.progress().is_ended() && is_window_due_on(entry, window);
     Ok(HalfReads {

@@ -16,6 +16,7 @@ ghost use Rattle.quic_history.specs.Permitting.{is_flow_controlled};
 ghost use Rattle.quic_history.specs.Control.{announced_end, after_announced, with_announced};
 
 use crate::half_reads::{HalfReads, read_some_on};
+use crate::spare::SpareHalves;
 use quic_assembler::{Chunk, EnsureError};
 use quic_history::progress::Progress;
 use quic_receiving::{ClosedStream, ReadError, ReadableError, Recv};
@@ -33,6 +34,7 @@ pub struct ReceiveHalves {
     window: VarInt,
     // `None` is a half to which nothing came.
     entries: HashMap<StreamId, Option<Box<Recv>>>,
+    spare: SpareHalves,
 }
 
 /// What came of a frame that reached a half.
@@ -56,6 +58,7 @@ impl ReceiveHalves {
             alloc,
             window,
             entries: HashMap::new(alloc),
+            spare: SpareHalves::new(alloc),
         }
     }
 
@@ -148,7 +151,7 @@ impl ReceiveHalves {
         match used {
             Some(half) => Ok(Some(half)),
             None => {
-                let half = Box::new(self.alloc, Recv::new(self.alloc, self.window.into_inner()))?;
+                let half = self.spare.make(self.window)?;
                 Ok(Some(half))
             }
         }
@@ -196,7 +199,7 @@ impl ReceiveHalves {
         match self.entries.get_mut(&id) {
             None => Err(ReadableError::ClosedStream),
             Some(entry) => read_some_on(
-                self.alloc,
+                &mut self.spare,
                 self.window,
                 entry,
                 ordered,
@@ -217,7 +220,7 @@ impl ReceiveHalves {
     {
         match self.entries.get_mut(&id) {
             None => Err(ReadableError::ClosedStream),
-            Some(entry) => ask_on(self.alloc, self.window, entry, ordered),
+            Some(entry) => ask_on(&mut self.spare, self.window, entry, ordered),
         }
     }
 
@@ -238,11 +241,11 @@ impl ReceiveHalves {
         ensures room { room self.new ≡ room self.old }
     {
         let id = frame.id;
-        let (alloc, window) = (self.alloc, self.window);
+        let window = self.window;
         match self.entries.get_mut(&id) {
             None => Ok(None),
             Some(entry) => ingest_on(
-                alloc,
+                &mut self.spare,
                 window,
                 entry,
                 frame,
@@ -330,7 +333,8 @@ impl ReceiveHalves {
         ensures window { self.new.window ≡ self.old.window }
         ensures room { room self.old ≤ room self.new }
     {
-        let _ = self.entries.remove(&id);
+        let entry = self.entries.remove(&id);
+        self.spare.keep(entry);
     }
 
     /// Lets the halves of the streams of one end go.
@@ -411,7 +415,7 @@ pub(crate) fn read_on(
 // Makes the half of an entry to which nothing came.
 #[inline(always)]
 fn make_half(
-    alloc: Global,
+    spare: &mut SpareHalves,
     window: VarInt,
     entry: &mut Option<Box<Recv>>,
 ) -> Result<(), OutOfMemory>
@@ -421,13 +425,13 @@ fn make_half(
     if entry.is_some() {
         return Ok(());
     }
-    put_new_half(alloc, window, entry)
+    put_new_half(spare, window, entry)
 }
 
 // Puts a new half into an entry to which nothing came.
 #[inline(never)]
 fn put_new_half(
-    alloc: Global,
+    spare: &mut SpareHalves,
     window: VarInt,
     entry: &mut Option<Box<Recv>>,
 ) -> Result<(), OutOfMemory>
@@ -435,7 +439,7 @@ fn put_new_half(
     ensures same { half_in window entry.new ≡ half_in window entry.old }
     ensures made { OnOk result (is_some entry.new ≡ true) }
 {
-    let half = Box::new(alloc, Recv::new(alloc, window.into_inner()))?;
+    let half = spare.make(window)?;
     *entry = Some(half);
     Ok(())
 }
@@ -443,7 +447,7 @@ fn put_new_half(
 // Asks the half of an entry for a mode.
 #[inline]
 pub(crate) fn ask_on(
-    alloc: Global,
+    spare: &mut SpareHalves,
     window: VarInt,
     entry: &mut Option<Box<Recv>>,
     ordered: bool,
@@ -455,7 +459,7 @@ pub(crate) fn ask_on(
     if ordered && entry.is_none() {
         return Ok(());
     }
-    if make_half(alloc, window, entry).is_err() {
+    if make_half(spare, window, entry).is_err() {
         return Err(ReadableError::OutOfMemory);
     }
     match entry {
@@ -483,7 +487,7 @@ fn ask_half(half: &mut Recv, ordered: bool) -> Result<(), ReadableError>
 // Takes a STREAM frame on the half of an entry.
 #[inline]
 fn ingest_on(
-    alloc: Global,
+    spare: &mut SpareHalves,
     window: VarInt,
     entry: &mut Option<Box<Recv>>,
     frame: frame::Stream,
@@ -495,7 +499,7 @@ fn ingest_on(
     ensures ingests { IfOk result (λ taken. IngestsOn (half_in window entry.old) frame.offset frame.bytes frame.fin payload_len received permitted taken (half_in window entry.new)) }
     ensures err { OnErr result (half_in window entry.new ≡ half_in window entry.old) }
 {
-    make_half(alloc, window, entry)?;
+    make_half(spare, window, entry)?;
     match entry {
         None => unreachable!(),
         Some(half) => Ok(ingest_half(half, frame, payload_len, received, permitted)),

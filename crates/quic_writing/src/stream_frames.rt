@@ -18,7 +18,7 @@ use smallvec::SmallVec;
 const FURTHER_FRAMES: usize = 4;
 
 /// The STREAM frames of a payload, without their data.
-pub type StreamMetaVec = SmallVec<StreamMeta, 1>;
+pub type StreamMetaVec = SmallVec<StreamMeta, 4>;
 
 /// Appends STREAM frames (RFC 9000 section 19.8) to a payload of at most `max_size` bytes, and to `sent` what each of
 /// them carries, as long as a stream is queued and a frame with the greatest head still fits.
