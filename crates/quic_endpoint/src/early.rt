@@ -7,11 +7,10 @@ ghost use Rattle.quic_retransmits.specs.Pending.{nothing, pending_view};
 ghost use Rattle.quic_history.specs.World.{Made};
 ghost use Rattle.quic_history.specs.Early.{IsEarly, with_rejection, SendsAgain};
 ghost use Rattle.quic_history.specs.History.{Event, Rejected, SentAgain, IsUnanswered, From};
-ghost use Rattle.quic_history.specs.Sends.{with_params_given};
 ghost use Rattle.quic_endpoint.specs.Shown.{endpoint_view};
 
 use crate::endpoint::Endpoint;
-use quic_streams::{PeerLimits, Retransmits};
+use quic_streams::Retransmits;
 use quic_values::OutOfMemory;
 
 #[tactic(auto, unfolding(crate::specs::Shown::endpoint_view))]
@@ -26,18 +25,6 @@ impl Endpoint {
     {
         self.streams.zero_rtt_rejected();
         self.pending = Retransmits::new(self.alloc);
-    }
-
-    /// The peer rejected the early data of a client, as [`Endpoint::zero_rtt_rejected`], and gave its limits. Takes no
-    /// memory.
-    pub fn reject_early(&mut self, params: &PeerLimits)
-        ensures rejects { endpoint_view self.new ≡ record { streams = with_params_given (with_rejection (endpoint_view self.old).streams) params.now; pending = nothing } }
-    {
-        self.zero_rtt_rejected();
-        match self.streams.set_params(params) {
-            Ok(()) => {}
-            Err(_) => unreachable!(),
-        }
     }
 
     /// The control frames that are to be sent.

@@ -5,7 +5,7 @@ use Rattle.std.proofs.lemmas.Option.{none-some, same_Some}
 use Rattle.std.proofs.lemmas.Bool.Decides.{eqb_tells}
 use Rattle.quic_streams.specs.declared.settling.SentPayload.{SentPayload}
 use Rattle.quic_session.specs.declared.unsettled.Unsettled.{Unsettled}
-use Rattle.quic_session.specs.Tokens.{unsettled, with_payload, AreBelow, LAST, KeepsNew}
+use Rattle.quic_session.specs.Tokens.{unsettled, with_payload, HaveTokensBelow, LAST, KeepsNew}
 use Rattle.quic_session.proofs.Places.{none-behind}
 use Rattle.quic_session.proofs.Payloads.{Kept}
 
@@ -18,7 +18,7 @@ put-apart f token q sent apart = by (eqb_tells token q)
     by (inr e) = ap (λ t. cond t sent (f q)) e.0
 
 -- the payloads of a session stand under tokens below the next one, unless that is the last that there is
-pub below-next : (u : Unsettled) → u.next < LAST → AreBelow (unsettled u) u.next
+pub below-next : (u : Unsettled) → u.next < LAST → HaveTokensBelow (unsettled u) u.next
 unfolding unsettled
 below-next u small = none-behind u.first u.next u.places.items (let turn = u.in_turn.1 in omega (arith, turn, small))
 

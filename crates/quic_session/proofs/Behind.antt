@@ -11,7 +11,7 @@ use Rattle.quic_wire.proofs.Numbers.{number_begins, number_takes}
 use Rattle.quic_wire.proofs.Read.{frame_begins}
 use Rattle.quic_wire.proofs.Joins.{join}
 use Rattle.quic_wire.proofs.Whole.{dropped_behind}
-use Rattle.quic_session.specs.Runs.{is_own_type, is_skipped_type, begins_with, BeginsSkipped, BeginsRun, rest_of}
+use Rattle.quic_session.specs.Runs.{is_own_type, is_skipped_type, begins_with, BeginsSkipped, BeginsRun, bytes_behind}
 
 or-right : (a b : Bool) → (a || b) ≡ true → a ≡ false → b ≡ true
 or-right true b h e = absurd cc
@@ -40,17 +40,17 @@ skipped-is (kind ∷ fields) rest n fits above is e small =
     inr (leb-true 22 kind p.0, leb-true kind 23 p.1, n, t.begins, small)
 
 -- a frame stands before the bytes behind it
-pub frame-before : (bytes rest : List ℕ) → rest_of (frame_at bytes) ≡ Some rest → (f : Frame) × (frame_at bytes ≡ Some (f, rest))
+pub frame-before : (bytes rest : List ℕ) → bytes_behind (frame_at bytes) ≡ Some rest → (f : Frame) × (frame_at bytes ≡ Some (f, rest))
 frame-before bytes rest e = cases (frame_at bytes) refl e
   where
-    cases : (o : Option (Frame × List ℕ)) → frame_at bytes ≡ o → rest_of o ≡ Some rest → (f : Frame) × (frame_at bytes ≡ Some (f, rest))
+    cases : (o : Option (Frame × List ℕ)) → frame_at bytes ≡ o → bytes_behind o ≡ Some rest → (f : Frame) × (frame_at bytes ≡ Some (f, rest))
     cases None h e = absurd cc
     cases (Some x) h e = (x.0, h ∙ ap (λ (r : List ℕ). Some (x.0, r)) (some_is x.1 rest e))
 
-pub none-before : (bytes : List ℕ) → rest_of (frame_at bytes) ≡ None → frame_at bytes ≡ None
+pub none-before : (bytes : List ℕ) → bytes_behind (frame_at bytes) ≡ None → frame_at bytes ≡ None
 none-before bytes e = cases (frame_at bytes) refl e
   where
-    cases : (o : Option (Frame × List ℕ)) → frame_at bytes ≡ o → rest_of o ≡ None → frame_at bytes ≡ None
+    cases : (o : Option (Frame × List ℕ)) → frame_at bytes ≡ o → bytes_behind o ≡ None → frame_at bytes ≡ None
     cases None h e = h
     cases (Some x) h e = absurd cc
 

@@ -9,3 +9,4 @@ pub mod Payloads
 pub mod Places
 pub mod Processed
 pub mod Taken
+pub mod Traced

@@ -10,16 +10,18 @@ use Rattle.std.proofs.Math.Seq.{get_or-append_seam}
 use Rattle.quic_wire.specs.declared.frame.Frame.{Frame}
 use Rattle.quic_session.specs.declared.session.Session.{Session}
 use Rattle.quic_session.specs.declared.receiving.PayloadError.{PayloadError}
-use Rattle.quic_session.specs.Receiving.{FrameCall, TakesFrames, none, more, ReceivesFrom, TakesAll, StopsAtRefused}
+use Rattle.quic_session.specs.Receiving.{FrameCall, TakesFrames, none, more, GoesOnWithCalls, ReceivesFrom, TakesAll, StopsAtRefused}
+use Rattle.quic_session.proofs.Traced.{no-calls, more-calls}
 
 -- of the frames so far, those from a place on were taken
 pub record Past (size first : ℕ) (s : Session) (seen : List Frame) (t : Session) : Type 0 where
   pub calls : List FrameCall
   pub frames : drop first seen ≡ map (λ c. c.frame) calls
   pub takes : TakesFrames size s calls t
+  pub from : GoesOnWithCalls calls s t
 
 pub past-none : (size first : ℕ) (s : Session) → Past size first s [] s
-past-none size first s = record { calls = []; frames = drop_of_length-le [] (omega arith); takes = none }
+past-none size first s = record { calls = []; frames = drop_of_length-le [] (omega arith); takes = none; from = no-calls s }
 
 abbrev frame_of : FrameCall → Frame
 frame_of c = c.frame
@@ -33,13 +35,14 @@ past-one : (size first : ℕ) (s : Session) (seen : List Frame) (t : Session) (f
     → Past size first s seen t → ReceivesFrom (length seen) first t f size (Ok tt) u → Past size first s (seen ++ f ∷ []) u
 past-one size first s seen t f u p (inl o) =
     let P : Session → Type 0 = λ x. TakesFrames size s p.calls x in
-    record { calls = p.calls; frames = drop-below first seen f o.below ∙ p.frames; takes = subst P (sym o.same) p.takes }
+    record { calls = p.calls; frames = drop-below first seen f o.below ∙ p.frames; takes = subst P (sym o.same) p.takes; from = subst (GoesOnWithCalls p.calls s) (sym o.same) p.from }
 past-one size first s seen t f u p (inr o) =
     let call : FrameCall = record { frame = f; answer = o.answer } in
     record {
       calls = p.calls ++ call ∷ [];
       frames = drop-append-le first seen (f ∷ []) o.above ∙ ap (λ l. l ++ f ∷ []) p.frames ∙ sym (map-append frame_of p.calls (call ∷ []));
       takes = more p.takes call o.receives (sym o.answers);
+      from = more-calls p.calls (call ∷ []) s t u p.from o.from;
     }
 
 pub past-step : (size first : ℕ) (s : Session) (seen : List Frame) (t : Session) (f : Frame) (u : Session) (at : ℕ) (r : Result (Unit {0}) PayloadError)
@@ -52,7 +55,7 @@ past-count : (size first : ℕ) (s : Session) (seen : List Frame) (t : Session) 
 past-count size first s seen t p h = omega (arith, ap length p.frames, length-map p.calls frame_of, length-drop first seen)
 
 pub past-all : (size first : ℕ) (s : Session) (seen : List Frame) (t : Session) (at : ℕ) → Past size first s seen t → at ≡ length seen → TakesAll size first seen s (record { next = at; answer = Ok tt }) t
-past-all size first s seen t at p here = record { calls = p.calls; frames = p.frames; takes = p.takes; next = here; answer = refl }
+past-all size first s seen t at p here = record { calls = p.calls; frames = p.frames; takes = p.takes; from = p.from; next = here; answer = refl }
 
 -- whether an answer is a refusal
 is_error : Result (Unit {0}) PayloadError → Bool
@@ -74,6 +77,7 @@ past-stopped size first s seen t f rest e u p (inr o) = record {
   rest = rest;
   frames = drop-append-le first seen (f ∷ rest) o.above ∙ ap (λ l. l ++ f ∷ rest) p.frames;
   receives = o.receives;
+  from = more-calls p.calls (record { frame = f; answer = o.answer } ∷ []) s t u p.from o.from;
   error = e;
   why = sym o.answers;
   answer = refl;

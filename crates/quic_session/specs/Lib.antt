@@ -9,4 +9,5 @@ pub mod Receiving
 pub mod Runs
 pub mod Sessions
 pub mod Settling
+pub mod Slots
 pub mod Tokens

@@ -9,50 +9,54 @@ use Rattle.quic_session.specs.declared.receiving.PayloadError.TheVariants as pay
 use Rattle.quic_session.specs.declared.processing.Progress.{Progress}
 use Rattle.quic_session.specs.declared.processing.Halt.{Halt}
 use Rattle.quic_session.specs.declared.processing.Halt.TheVariants as halt
-use Rattle.quic_session.specs.Receiving.{FrameCall, TakesFrames, ReceivesFrame, StopsAtRefused, payload_answer}
-use Rattle.quic_session.specs.Runs.{begins_with, is_own_type, is_other_type, BeginsSkipped, BeginsRun, IsMalformed}
+use Rattle.quic_session.specs.Receiving.{FrameCall, TakesFrames, ReceivesFrame, StopsAtRefused, GoesOnWithCalls, payload_answer}
+use Rattle.quic_session.specs.Runs.{begins_with, is_own_type, is_other_type, BeginsSkipped, BeginsRun, BeginsMalformed}
 
 -- the frames of calls
-abbrev pub frames_of : List FrameCall → List Frame
-frames_of calls = map (λ c. c.frame) calls
+abbrev pub called_frames : List FrameCall → List Frame
+called_frames calls = map (λ c. c.frame) calls
 
--- the bytes were processed, up to the rest: a skipped frame changes nothing, and the frames of a run are accepted one after
--- another, as those of a payload that is as long as the run
-pub data ProcessesRuns (s : Session) (bytes : List ℕ) : List ℕ → Session → Type 0 where
-  none : ProcessesRuns s bytes bytes s
-  skips : {b : List ℕ} {t : Session} → ProcessesRuns s bytes b t → (c : List ℕ) → BeginsSkipped b c → ProcessesRuns s bytes c t
-  accepts : {b : List ℕ} {t u : Session} → ProcessesRuns s bytes b t → (c : List ℕ) (calls : List FrameCall) → BeginsRun b (frames_of calls) c → TakesFrames (length b - length c) t calls u
-      → ProcessesRuns s bytes c u
+-- the bytes were processed by calls, up to the rest: a skipped frame changes nothing, and the frames of a run are accepted one
+-- after another, as those of a payload that is as long as the run
+pub data ProcessesRuns (s : Session) (bytes : List ℕ) : List FrameCall → List ℕ → Session → Type 0 where
+  none : ProcessesRuns s bytes [] bytes s
+  skips : {calls : List FrameCall} {b : List ℕ} {t : Session} → ProcessesRuns s bytes calls b t → (c : List ℕ) → BeginsSkipped b c → ProcessesRuns s bytes calls c t
+  accepts : {earlier : List FrameCall} {b : List ℕ} {t u : Session} → ProcessesRuns s bytes earlier b t → (c : List ℕ) (calls : List FrameCall) → BeginsRun b (called_frames calls) c
+      → TakesFrames (length b - length c) t calls u → ProcessesRuns s bytes (earlier ++ calls) c u
 
 -- why processing stops in front of the rest: nothing is left, the host processes the next frame, what stands there is malformed,
 -- or there is no memory for the frames that begin there
 abbrev pub StopsFor : List ℕ → Result Halt PayloadError → Type 0
 StopsFor rest (Ok halt.End) = rest ≡ []
 StopsFor rest (Ok halt.OtherFrame) = begins_with is_other_type rest ≡ true
-StopsFor rest (Err payload_error.Malformed) = IsMalformed rest
+StopsFor rest (Err payload_error.Malformed) = BeginsMalformed rest
 StopsFor rest (Err payload_error.OutOfMemory) = begins_with is_own_type rest ≡ true
 StopsFor rest (Err (payload_error.Transport error)) = ⊥
 
 -- it stopped between frames
 pub record StopsBetween (s : Session) (bytes rest : List ℕ) (answer : Result Halt PayloadError) (t : Session) : Type 0 where
-  pub processes : ProcessesRuns s bytes rest t
+  pub calls : List FrameCall
+  pub processes : ProcessesRuns s bytes calls rest t
+  pub from : GoesOnWithCalls calls s t
   pub why : StopsFor rest answer
 
 -- or at a frame of a run that was rejected: the frames before it were accepted, and the rest begins with it
 pub record StopsAtRejected (s : Session) (bytes rest : List ℕ) (answer : Result Halt PayloadError) (t : Session) : Type 0 where
   pub run : List ℕ
   pub before : Session
-  pub processes : ProcessesRuns s bytes run before
+  pub earlier : List FrameCall
+  pub processes : ProcessesRuns s bytes earlier run before
   pub calls : List FrameCall
   pub rejected : FrameCall
   pub others : List Frame
   pub behind : List ℕ
-  pub is_run : BeginsRun run (frames_of calls ++ rejected.frame ∷ others) behind
-  pub accepted : BeginsFrames run (frames_of calls) rest
+  pub is_run : BeginsRun run (called_frames calls ++ rejected.frame ∷ others) behind
+  pub accepted : BeginsFrames run (called_frames calls) rest
   pub left : BeginsFrames rest (rejected.frame ∷ others) behind
   pub between : Session
   pub accepts : TakesFrames (length run - length behind) before calls between
   pub rejects : ReceivesFrame between rejected.frame (length run - length behind) rejected.answer t
+  pub from : GoesOnWithCalls (earlier ++ (calls ++ rejected ∷ [])) s t
   pub error : PayloadError
   pub why : payload_answer rejected.answer ≡ Err error
   pub answers : answer ≡ Err error

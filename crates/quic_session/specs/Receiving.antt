@@ -13,8 +13,8 @@ use Rattle.quic_wire.specs.Frames.{AreFrames}
 use Rattle.quic_receiving.specs.declared.transmit.ShouldTransmit.{ShouldTransmit}
 use Rattle.quic_datagrams.specs.Queue.{cost, total_cost, with_newest, IsReceiveRefusal}
 use Rattle.quic_history.specs.Sends.{sending_refusal}
-use Rattle.quic_history.specs.World.{World, is_own, remote_of}
-use Rattle.quic_history.specs.History.{Event}
+use Rattle.quic_history.specs.World.{World, Made, is_own, remote_of}
+use Rattle.quic_history.specs.History.{Event, From}
 use Rattle.quic_endpoint.specs.Receiving.{ReceivesAt, AccountsFrame, event_of, with_call_made}
 use Rattle.quic_session.specs.declared.session.Session.{Session}
 use Rattle.quic_session.specs.declared.receiving.Received.{Received}
@@ -115,16 +115,21 @@ pub data TakesFrames (size : ℕ) (s : Session) : List FrameCall → Session →
   more : {calls : List FrameCall} {t u : Session} → TakesFrames size s calls t → (call : FrameCall) → ReceivesFrame t call.frame size call.answer u → payload_answer call.answer ≡ Ok tt
       → TakesFrames size s (calls ++ call ∷ []) u
 
--- their history
+-- a trace, with the calls of the streams that the frames are, one after another
 abbrev pub with_frames : List FrameCall → List Event → List Event
 with_frames [] h = h
 with_frames (c ∷ cs) h = with_frames cs (with_call_made (call_of c.frame c.answer) h)
+
+-- whatever trace came before, it goes on with these calls
+abbrev pub GoesOnWithCalls : List FrameCall → Session → Session → Type 0
+GoesOnWithCalls calls s t = (m : Made) (h : List Event) → From m h (end_of s).streams → From m (with_frames calls h) (end_of t).streams
 
 -- all frames from a place on were taken
 pub record TakesAll (size first : ℕ) (all : List Frame) (s : Session) (r : Received) (t : Session) : Type 0 where
   pub calls : List FrameCall
   pub frames : drop first all ≡ map (λ c. c.frame) calls
   pub takes : TakesFrames size s calls t
+  pub from : GoesOnWithCalls calls s t
   pub next : r.next ≡ length all
   pub answer : r.answer ≡ Ok tt
 
@@ -137,6 +142,7 @@ pub record StopsAtRefused (size first : ℕ) (all : List Frame) (s : Session) (r
   pub rest : List Frame
   pub frames : drop first all ≡ map (λ c. c.frame) calls ++ refused.frame ∷ rest
   pub receives : ReceivesFrame between refused.frame size refused.answer t
+  pub from : GoesOnWithCalls (calls ++ refused ∷ []) s t
   pub error : PayloadError
   pub why : payload_answer refused.answer ≡ Err error
   pub answer : r.answer ≡ Err error
@@ -172,6 +178,7 @@ pub record TakesOne (at first : ℕ) (s : Session) (frame : Frame) (size : ℕ) 
   pub above : first ≤ at
   pub answer : Result ShouldTransmit ReceiveError
   pub receives : ReceivesFrame s frame size answer t
+  pub from : GoesOnWithCalls (record { frame = frame; answer = answer } ∷ []) s t
   pub answers : r ≡ payload_answer answer
 
 abbrev pub ReceivesFrom : ℕ → ℕ → Session → Frame → ℕ → Result (Unit {0}) PayloadError → Session → Type 0

@@ -34,8 +34,8 @@ abbrev pub BeginsRun : List ℕ → List Frame → List ℕ → Type 0
 BeginsRun bytes fs rest = BeginsFrames bytes fs rest × (begins_with is_own_type rest ≡ false)
 
 -- the bytes begin with a frame of the library or a skipped one by its type, and are not one
-abbrev pub IsMalformed : List ℕ → Type 0
-IsMalformed bytes = ((begins_with is_own_type bytes ≡ true) × ((fs : List Frame) (rest : List ℕ) → BeginsRun bytes fs rest → ⊥))
+abbrev pub BeginsMalformed : List ℕ → Type 0
+BeginsMalformed bytes = ((begins_with is_own_type bytes ≡ true) × ((fs : List Frame) (rest : List ℕ) → BeginsRun bytes fs rest → ⊥))
     ⊎ ((begins_with is_skipped_type bytes ≡ true) × ((rest : List ℕ) → BeginsSkipped bytes rest → ⊥))
 
 -- so many of the first bytes are a part of them
@@ -48,18 +48,18 @@ BeginsAs bytes front.End = bytes ≡ []
 BeginsAs bytes front.Other = begins_with is_other_type bytes ≡ true
 BeginsAs bytes (front.Skipped n) = IsFrontOf n bytes × BeginsSkipped bytes (drop n bytes)
 BeginsAs bytes (front.Run n) = (begins_with is_own_type bytes ≡ true) × IsFrontOf n bytes × (fs : List Frame) × BeginsRun bytes fs (drop n bytes)
-BeginsAs bytes front.Malformed = IsMalformed bytes
+BeginsAs bytes front.Malformed = BeginsMalformed bytes
 
 -- what was read is what reading gives
-abbrev pub Reads : {X Y : Type 0} → (X → Y) → Option X → Option Y → Type 0
-Reads view (Some x) read = read ≡ Some (view x)
-Reads view None read = read ≡ None
+abbrev pub ParsesAs : {X Y : Type 0} → (X → Y) → Option X → Option Y → Type 0
+ParsesAs view (Some x) read = read ≡ Some (view x)
+ParsesAs view None read = read ≡ None
 
 -- the bytes behind what was read
-abbrev pub rest_of : {A : Type 0} → Option (A × List ℕ) → Option (List ℕ)
-rest_of (Some x) = Some x.1
-rest_of None = None
+abbrev pub bytes_behind : {A : Type 0} → Option (A × List ℕ) → Option (List ℕ)
+bytes_behind (Some x) = Some x.1
+bytes_behind None = None
 
-abbrev pub rest_of_two : Option (ℕ × ℕ × List ℕ) → Option (List ℕ)
-rest_of_two (Some x) = Some x.2
-rest_of_two None = None
+abbrev pub bytes_behind_two : Option (ℕ × ℕ × List ℕ) → Option (List ℕ)
+bytes_behind_two (Some x) = Some x.2
+bytes_behind_two None = None

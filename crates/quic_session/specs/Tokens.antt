@@ -39,13 +39,13 @@ abbrev pub LAST : ℕ
 LAST = 2 ^ 64 - 1
 
 -- each payload stands under a token below another
-abbrev pub AreBelow : (ℕ → Option SentPayload) → ℕ → Type 0
-AreBelow f next = (token : ℕ) → next ≤ token → f token ≡ None
+abbrev pub HaveTokensBelow : (ℕ → Option SentPayload) → ℕ → Type 0
+HaveTokensBelow f next = (token : ℕ) → next ≤ token → f token ≡ None
 
 -- a payload is kept under the next token. It is a new one and greater than those before, unless it is the last that there is
 pub record KeepsNew (f : ℕ → Option SentPayload) (next : ℕ) (sent : SentPayload) (token : ℕ) (g : ℕ → Option SentPayload) (after : ℕ) : Type 0 where
   pub is_next : token ≡ next
   pub new : next < LAST → f token ≡ None
-  pub below : next < LAST → AreBelow f next
+  pub below : next < LAST → HaveTokensBelow f next
   pub kept : g ≡ with_payload f token (Some sent)
   pub rises : after ≡ min (next + 1) LAST

@@ -6,6 +6,7 @@ ghost use Rattle.quic_retransmits.specs.Pending.{nothing};
 ghost use Rattle.quic_session.specs.Sessions.{end_of, datagrams_view, beside_of};
 ghost use Rattle.quic_session.specs.Tokens.{unsettled, places, KeepsNew};
 ghost use Rattle.quic_session.specs.Emitting.{payload_of, writing_of, WritesControl, WritesDatagrams, WritesStreams, SendsOldest, AreSent, with_datagrams_sent, IfAsked, WritesParts, EmitsPayload, EmitsLent, KeepsBuffer, IsLent, GoesOnWithFrames};
+ghost use Rattle.quic_session.specs.Slots.{EmitsReserved};
 
 use crate::buffer::Buffer;
 use crate::session::Session;
@@ -96,6 +97,7 @@ impl Session {
         fair: bool,
     ) -> Result<Option<Emitted>, OutOfMemory>
         ensures emits { EmitsLent max_size self.old parts fair result self.new self.new.bytes.items }
+        ensures reserved { 0 < places self.old.unsettled → EmitsReserved max_size self.old parts fair result self.new }
         ensures from { GoesOnWithFrames max_size fair (end_of self.old).streams (end_of self.new).streams }
         ensures conn { self.new.conn ≡ self.old.conn }
     {
@@ -121,6 +123,7 @@ impl Session {
         fair: bool,
     ) -> Result<Option<Emitted>, OutOfMemory>
         ensures emits { EmitsLent max_size self.old parts fair result self.new buffer.new.bytes.items }
+        ensures reserved { 0 < places self.old.unsettled → EmitsReserved max_size self.old parts fair result self.new }
         ensures buffer { KeepsBuffer result buffer.old buffer.new }
         ensures from { GoesOnWithFrames max_size fair (end_of self.old).streams (end_of self.new).streams }
         ensures conn { self.new.conn ≡ self.old.conn }

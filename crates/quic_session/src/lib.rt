@@ -12,6 +12,7 @@ pub mod lent_bytes;
 mod memory;
 pub mod params;
 pub mod processing;
+pub mod questions;
 pub mod receiving;
 mod runs;
 pub mod session;

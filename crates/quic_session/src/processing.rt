@@ -1,14 +1,12 @@
 //! Payloads that have other frames between those of the library.
 
-ghost use Rattle.std.specs.Prelude.{◌≡◌, ◌≤◌, List, [], true, Ok, length, take};
-ghost use Rattle.quic_wire.specs.declared.frame.Frame.{Frame as FrameValue};
+ghost use Rattle.std.specs.Prelude.{◌≡◌, ◌≤◌, Ok, length, take};
 ghost use Rattle.quic_session.specs.Receiving.{ReceivesOnly};
-ghost use Rattle.quic_session.specs.Runs.{begins_with, is_own_type, BeginsRun};
 ghost use Rattle.quic_session.specs.Processing.{Processes, ProcessesHeld};
 
 use crate::buffer::Buffer;
 use crate::receiving::PayloadError;
-use crate::runs::{Front, front_of, offset_of};
+use crate::runs::{Front, front_of, is_one_run, offset_of};
 use crate::session::Session;
 
 /// Why a payload was processed no further.
@@ -102,11 +100,4 @@ impl Session {
             },
         }
     }
-}
-
-// Whether some bytes are frames of the library alone.
-fn is_one_run(bytes: &[u8]) -> bool
-    ensures { result ≡ true → (begins_with is_own_type bytes.now ≡ true) × (fs : List FrameValue) × BeginsRun bytes.now fs [] }
-{
-    matches!(front_of(bytes), Front::Run(length) if length == bytes.len())
 }

@@ -1,11 +1,11 @@
 //! Where the frames of the library stand in a payload that has other frames, too.
 
-ghost use Rattle.std.specs.Prelude.{ℕ, List, ◌≡◌, ◌^◌, ◌<◌, ◌≤◌, ◌++◌, length, drop, true, None, IfSome};
+ghost use Rattle.std.specs.Prelude.{ℕ, List, [], ◌≡◌, ◌^◌, ◌<◌, ◌≤◌, ◌++◌, length, drop, true, None, IfSome};
 ghost use Rattle.std.specs.Int.{w16, w32, w64};
 ghost use Rattle.quic_wire.specs.declared.frame.Frame.{Frame as FrameValue};
 ghost use Rattle.quic_wire.specs.Frames.{BeginsFrames};
 ghost use Rattle.quic_wire.specs.Reading.{wide_at, number_at, two_at, offset_at, content_at, reset_at, stream_at, datagram_at, frame_at};
-ghost use Rattle.quic_session.specs.Runs.{Reads, rest_of, rest_of_two, begins_with, is_own_type, is_skipped_type, BeginsRun, BeginsSkipped, BeginsAs};
+ghost use Rattle.quic_session.specs.Runs.{ParsesAs, bytes_behind, bytes_behind_two, begins_with, is_own_type, is_skipped_type, BeginsRun, BeginsSkipped, BeginsAs};
 
 /// What the bytes of a payload begin with.
 #[derive(Clone, Copy)]
@@ -23,8 +23,9 @@ pub(crate) enum Front {
 }
 
 // A number of two bytes (RFC 9000 section 16), and the bytes behind it.
+#[inline(always)]
 fn wide_two_at(bytes: &[u8]) -> Option<(u64, &[u8])>
-    ensures { Reads (λ x. (x.0, x.1.now)) result (wide_at w16 (2 ^ 14) bytes.now) }
+    ensures { ParsesAs (λ x. (x.0, x.1.now)) result (wide_at w16 (2 ^ 14) bytes.now) }
 {
     if bytes.len() < 2 {
         return None;
@@ -35,8 +36,9 @@ fn wide_two_at(bytes: &[u8]) -> Option<(u64, &[u8])>
 }
 
 // A number of four bytes.
+#[inline(always)]
 fn wide_four_at(bytes: &[u8]) -> Option<(u64, &[u8])>
-    ensures { Reads (λ x. (x.0, x.1.now)) result (wide_at w32 (2 ^ 30) bytes.now) }
+    ensures { ParsesAs (λ x. (x.0, x.1.now)) result (wide_at w32 (2 ^ 30) bytes.now) }
 {
     if bytes.len() < 4 {
         return None;
@@ -47,8 +49,9 @@ fn wide_four_at(bytes: &[u8]) -> Option<(u64, &[u8])>
 }
 
 // A number of eight bytes.
+#[inline(always)]
 fn wide_eight_at(bytes: &[u8]) -> Option<(u64, &[u8])>
-    ensures { Reads (λ x. (x.0, x.1.now)) result (wide_at w64 (2 ^ 62) bytes.now) }
+    ensures { ParsesAs (λ x. (x.0, x.1.now)) result (wide_at w64 (2 ^ 62) bytes.now) }
 {
     if bytes.len() < 8 {
         return None;
@@ -61,9 +64,10 @@ fn wide_eight_at(bytes: &[u8]) -> Option<(u64, &[u8])>
 }
 
 // A number, and the bytes behind it.
+#[inline(always)]
 #[tactic(auto, unfolding(quic_wire::specs::Reading::number_at))]
 fn number_at(bytes: &[u8]) -> Option<(u64, &[u8])>
-    ensures { Reads (λ x. (x.0, x.1.now)) result (number_at bytes.now) }
+    ensures { ParsesAs (λ x. (x.0, x.1.now)) result (number_at bytes.now) }
 {
     let [first, rest @ ..] = bytes else {
         return None;
@@ -81,26 +85,29 @@ fn number_at(bytes: &[u8]) -> Option<(u64, &[u8])>
 }
 
 // The bytes behind a number.
+#[inline(always)]
 fn behind_number(bytes: &[u8]) -> Option<&[u8]>
-    ensures { Reads (λ x. x.now) result (rest_of (number_at bytes.now)) }
+    ensures { ParsesAs (λ x. x.now) result (bytes_behind (number_at bytes.now)) }
 {
     let (_, rest) = number_at(bytes)?;
     Some(rest)
 }
 
 // The bytes behind two numbers.
+#[inline(always)]
 #[tactic(auto, unfolding(quic_wire::specs::Reading::two_at))]
 fn behind_two(bytes: &[u8]) -> Option<&[u8]>
-    ensures { Reads (λ x. x.now) result (rest_of_two (two_at bytes.now)) }
+    ensures { ParsesAs (λ x. x.now) result (bytes_behind_two (two_at bytes.now)) }
 {
     let rest = behind_number(bytes)?;
     behind_number(rest)
 }
 
 // The bytes behind a length and the content, or, without a length, none.
+#[inline(always)]
 #[tactic(auto, unfolding(quic_wire::specs::Reading::content_at))]
 fn behind_content(with_length: bool, bytes: &[u8]) -> Option<&[u8]>
-    ensures { Reads (λ x. x.now) result (rest_of (content_at with_length bytes.now)) }
+    ensures { ParsesAs (λ x. x.now) result (bytes_behind (content_at with_length bytes.now)) }
 {
     if !with_length {
         return Some(&[]);
@@ -114,18 +121,20 @@ fn behind_content(with_length: bool, bytes: &[u8]) -> Option<&[u8]>
 }
 
 // The bytes behind the fields of a RESET_STREAM frame.
+#[inline(always)]
 #[tactic(auto, unfolding(quic_wire::specs::Reading::reset_at))]
 fn behind_reset(bytes: &[u8]) -> Option<&[u8]>
-    ensures { Reads (λ x. x.now) result (rest_of (reset_at bytes.now)) }
+    ensures { ParsesAs (λ x. x.now) result (bytes_behind (reset_at bytes.now)) }
 {
     let rest = behind_number(bytes)?;
     behind_two(rest)
 }
 
 // The bytes behind the fields of a STREAM frame.
+#[inline(always)]
 #[tactic(auto, unfolding(quic_wire::specs::Reading::stream_at, quic_wire::specs::Reading::offset_at))]
 fn behind_stream(kind: u8, bytes: &[u8]) -> Option<&[u8]>
-    ensures { Reads (λ x. x.now) result (rest_of (stream_at kind bytes.now)) }
+    ensures { ParsesAs (λ x. x.now) result (bytes_behind (stream_at kind bytes.now)) }
 {
     let rest = behind_number(bytes)?;
     let rest = if kind & 0x04 != 0 {
@@ -137,9 +146,10 @@ fn behind_stream(kind: u8, bytes: &[u8]) -> Option<&[u8]>
 }
 
 // The bytes behind a frame of the library.
+#[inline(always)]
 #[tactic(auto, unfolding(quic_wire::specs::Reading::frame_at, quic_wire::specs::Reading::stop_at, quic_wire::specs::Reading::max_data_at, quic_wire::specs::Reading::max_stream_data_at, quic_wire::specs::Reading::max_streams_at, quic_wire::specs::Reading::data_blocked_at, quic_wire::specs::Reading::stream_data_blocked_at, quic_wire::specs::Reading::datagram_at))]
 fn behind_frame(bytes: &[u8]) -> Option<&[u8]>
-    ensures { Reads (λ x. x.now) result (rest_of (frame_at bytes.now)) }
+    ensures { ParsesAs (λ x. x.now) result (bytes_behind (frame_at bytes.now)) }
 {
     let [kind, fields @ ..] = bytes else {
         return None;
@@ -173,6 +183,7 @@ fn behind_skipped(bytes: &[u8]) -> Option<&[u8]>
 }
 
 // Whether a frame type is the library's.
+#[inline(always)]
 fn is_own_type(kind: u8) -> bool
     ensures { result ≡ is_own_type kind }
 {
@@ -187,6 +198,7 @@ fn is_skipped_type(kind: u8) -> bool
 }
 
 // Whether some bytes begin with a frame of the library, by its type.
+#[inline(always)]
 fn begins_own(bytes: &[u8]) -> bool
     ensures { result ≡ begins_with is_own_type bytes.now }
 {
@@ -228,6 +240,14 @@ pub(crate) fn front_of(bytes: &[u8]) -> Front
         };
     }
     Front::Other
+}
+
+/// Whether some bytes are frames of the library alone.
+#[inline(always)]
+pub(crate) fn is_one_run(bytes: &[u8]) -> bool
+    ensures { result ≡ true → (begins_with is_own_type bytes.now ≡ true) × (fs : List FrameValue) × BeginsRun bytes.now fs [] }
+{
+    begins_own(bytes) && matches!(run_length(bytes), Some(length) if length == bytes.len())
 }
 
 /// Where the frame begins that has so many others of a run before it.

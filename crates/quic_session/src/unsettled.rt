@@ -1,6 +1,6 @@
 //! Payloads that were sent and not heard of, by token.
 
-ghost use Rattle.std.specs.Prelude.{ℕ, ◌≡◌, ◌≤◌, ◌<◌, ◌+◌, ◌-◌, ◌^◌, min, length, slice_index_or, true, OnOk, OnErr, IfSome, Some, None, Option};
+ghost use Rattle.std.specs.Prelude.{ℕ, ◌≡◌, ◌≤◌, ◌<◌, ◌+◌, ◌-◌, ◌^◌, min, length, slice_index_or, true, IsOk, OnOk, OnErr, IfSome, Some, None, Option, option_copied};
 ghost use Rattle.std.specs.List.{sum_by};
 ghost use Rattle.quic_session.specs.Places.{held_at};
 
@@ -54,11 +54,13 @@ impl Unsettled {
         ensures same { unsettled self.new ≡ unsettled self.old }
         ensures next { self.new.next ≡ self.old.next }
         ensures ok { OnOk result (0 < places self.new) }
+        ensures free { 0 < places self.old → IsOk result }
     {
-        if self.places.len() == self.places.capacity() {
-            self.drop_settled();
-            self.drop_settled();
+        if self.places.len() < self.places.capacity() {
+            return Ok(());
         }
+        self.drop_settled();
+        self.drop_settled();
         self.make_room()
     }
 
@@ -91,6 +93,20 @@ impl Unsettled {
     {
         self.places.reserve(1)?;
         Ok(())
+    }
+
+    /// The payload of a token, if it is not settled.
+    pub(crate) fn get(&self, token: u64) -> Option<&SentPayload>
+        ensures { option_copied result ≡ unsettled self.now token }
+    {
+        if token < self.first {
+            return None;
+        }
+        let index = (token - self.first) as usize;
+        if index >= self.places.len() {
+            return None;
+        }
+        self.places[index].as_ref()
     }
 
     /// Keeps a payload in a place that was made, and gives its token.

@@ -1,8 +1,6 @@
 use Rattle.std.proofs.Common.{◌≡◌, ◌+◌, ◌-◌, ◌∙◌, ℕ, drop, refl, subst, arith}
 use Rattle.std.proofs.lemmas.List.{take_rest, length-drop}
-use Rattle.quic_session.specs.Processing.{ProcessesRuns}
-use Rattle.quic_session.specs.Processing.ProcessesRuns.{none, skips, accepts}
-use Rattle.quic_session.proofs.Processed.{Stopped, behind-more, run-accepted, run-rejected}
+use Rattle.quic_session.proofs.Processed.{Processed, Stopped, behind-more, processed-none, processed-skipped, processed-run, run-accepted, run-rejected}
 use Rattle.quic_session.proofs.session.Session.process.Goals as goal
 use Rattle.quic_session.proofs.session.Session.process.Goals.{in-Skipped, in-Run+in_default}
 
@@ -10,7 +8,7 @@ same-size : (next n : ℕ) → next + n - next ≡ n
 same-size next n = omega arith
 
 pub loop-length-init : goal.loop-length-init
-loop-length-init c = record { on = omega arith; within = c.requires; processes = none; others = (refl, refl) }
+loop-length-init c = record { on = omega arith; within = c.requires; processed = processed-none _ _; others = (refl, refl) }
 
 pub returns-in-Err-clause-processes : goal.returns-in-Err-clause-processes
 returns-in-Err-clause-processes c =
@@ -22,7 +20,7 @@ returns-in-Err-clause-processes c =
     let o = rw (take_rest payload next) at c.offset_of-accepted.ensures in
     let receives = rw (same-size next n) at c.receive-received.ensures.receives in
     let stops = run-rejected c.args.self.now c.loop-length.self (drop c.args.first payload) (drop next payload) n offset e.2 c.receive-received.result c.receive-received.new.self c.in-Err.error
-    e.1.1 e.0 e.3 c.loop-length.invariant.processes receives c.in-Err.is o.parts in
+    e.1.1 e.0 e.3 c.loop-length.invariant.processed receives c.in-Err.is o.parts in
     record {
       on = omega (arith, c.loop-length.invariant.on);
       within = omega (arith, o.within, length-drop next payload, c.loop-length.invariant.within);
@@ -42,7 +40,7 @@ loop-length-preserved c =
           rw (w.length-is, w.self-is) (record {
             on = omega (arith, c.loop-length.invariant.on);
             within = omega (arith, e.0.1, length-drop next payload, c.loop-length.invariant.within);
-            processes = subst (λ l. ProcessesRuns s whole l c.loop-length.self) (behind-more payload next n) (skips c.loop-length.invariant.processes (drop n (drop next payload)) e.1);
+            processed = subst (λ l. Processed s whole l c.loop-length.self) (behind-more payload next n) (processed-skipped s whole (drop next payload) (drop n (drop next payload)) c.loop-length.self c.loop-length.invariant.processed e.1);
             others = c.loop-length.invariant.others;
           })
       | in-Run+in_default w ↦
@@ -53,7 +51,7 @@ loop-length-preserved c =
           rw (w.length-is, w.self-is) (record {
             on = omega (arith, c.loop-length.invariant.on);
             within = omega (arith, e.1.1, length-drop next payload, c.loop-length.invariant.within);
-            processes = subst (λ l. ProcessesRuns s whole l w.receive-received.new.self) (behind-more payload next n) (accepts c.loop-length.invariant.processes (drop n (drop next payload)) a.calls a.run a.takes);
+            processed = subst (λ l. Processed s whole l w.receive-received.new.self) (behind-more payload next n) (processed-run s whole (drop next payload) (drop n (drop next payload)) c.loop-length.self w.receive-received.new.self c.loop-length.invariant.processed a);
             others = (w.receive-received.ensures.others.0 ∙ c.loop-length.invariant.others.0, w.receive-received.ensures.others.1 ∙ c.loop-length.invariant.others.1);
           })
     ]
