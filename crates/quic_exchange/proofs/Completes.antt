@@ -14,6 +14,7 @@ use Rattle.quic_exchange.specs.Steps.{NextTaken, Next, Accepted, Rejected, Retri
 use Rattle.quic_exchange.specs.History.{History, Past, after, past_from, past_of, nothing_yet}
 use Rattle.quic_exchange.specs.From.{Beginning, PairFrom}
 use Rattle.quic_exchange.specs.Runs.{TakesSteps, none, more, sendings_of}
+use Rattle.quic_exchange.specs.Promises.{Completes}
 use Rattle.quic_exchange.specs.Settling.{IsSettling, IsAllReported, AreIdle, AreSettledIn, LeavesNoRest}
 use Rattle.quic_exchange.specs.Completed.{HaveArrived, HaveBeenRead, HaveBeenTold, AreAllAcked, AreStopsTold}
 use Rattle.quic_exchange.specs.Tale.{Tales, Told}
@@ -25,7 +26,7 @@ use Rattle.quic_exchange.proofs.Arrived.{have-arrived}
 use Rattle.quic_exchange.proofs.Freed.{all-acked}
 use Rattle.quic_exchange.proofs.Completing.{have-been-read}
 use Rattle.quic_exchange.proofs.Finished.{have-been-told, stops-told}
-use Rattle.quic_exchange.proofs.PolledOut.{HasNoEvents}
+use Rattle.quic_exchange.proofs.PolledOut.{HasNoEvents, polled-out}
 use Rattle.quic_exchange.proofs.Beneath.{waits-stay}
 use Rattle.quic_exchange.proofs.Wide.{as_linked, decided-same}
 use Rattle.quic_exchange.proofs.Led.{EraAt, era-at, Led}
@@ -139,3 +140,18 @@ module _ (s : Beginning) (h : History) (v : PairState) (f : PairFrom s h v) (dec
   stops-led empty =
       let P : Past → Type 0 = λ p. AreStopsTold (Told s (sendings_of f)) p in
       subst P (sym came.past) (λ t k. stops-told came.a came.b came.taken v at_end.era empty t (told_so t k))
+
+-- all that a settling completes
+pub completes-led : (s : Beginning) (h : History) (old : PairState) (taken : History) (new : PairState) → PairFrom s h old → old.waits ≡ None → new.waits ≡ None → IsSettling old taken new → AreSettledIn 0 (length new.sent) new.sent → Completes s (h ++ taken) new
+completes-led s h old taken new f before behind settling settled =
+    let idle = idle-led s h old taken new f before behind settling in
+    record {
+      reported = reported-led s h old taken new f before behind settling settled;
+      idle = idle;
+      sent = λ led. no-rest-led s (h ++ taken) new led behind idle;
+      acked = λ led. acked-led s (h ++ taken) new led behind idle settled;
+      arrived = arrived-led s h old taken new f before behind settling settled;
+      read = read-led s h old taken new f before behind settling settled;
+      told = told-led s h old taken new f before behind settling settled;
+      stops = λ led. stops-led s (h ++ taken) new led behind idle (polled-out old taken new settling);
+    }

@@ -1,6 +1,6 @@
 -- Steps on payloads, put together from what their parts do.
-use Rattle.std.proofs.Common.{◌≡◌, ℕ, Bool, List, [], ◌∷◌, ◌++◌, length, Some, None, Result, Ok, Err, refl, sym, ap, ◌∙◌, subst, inl, inr}
-use Rattle.std.specs.Prelude.{◌^◌, ◌<◌, ◌≤◌, slice_get, slice_set}
+use Rattle.std.proofs.Common.{◌≡◌, ℕ, Bool, false, List, [], ◌∷◌, ◌++◌, length, Some, None, Result, Ok, Err, refl, sym, ap, ◌∙◌, subst, inl, inr}
+use Rattle.std.specs.Prelude.{◌^◌, ◌<◌, ◌≤◌, ◌&&◌, is_some, slice_get, slice_set}
 use Rattle.std.proofs.lemmas.Option.{none-some, same_Some}
 use Rattle.quic_values.specs.declared.ids.Side.TheVariants.{Client, Server}
 use Rattle.quic_outgoing.specs.declared.limits.PeerLimits.{PeerLimits}
@@ -28,12 +28,13 @@ use Rattle.quic_exchange.specs.declared.unsettled.Report.{Report}
 use Rattle.quic_exchange.specs.declared.places.HandedFrame.{HandedFrame}
 use Rattle.quic_exchange.specs.Replies.{received_reply, report_reply, payload_reply}
 use Rattle.quic_exchange.specs.Payloads.{IsMarked}
-use Rattle.quic_exchange.specs.Places.{FindsFrame, FailsToFind, MarksIf, MarksAt}
-use Rattle.quic_exchange.specs.Unsettled.{unsettled_after}
-use Rattle.quic_exchange.specs.Reports.{TakesRestAt, FailsToTake, KeepsBack}
+use Rattle.quic_exchange.specs.declared.sent.Note.{Note}
+use Rattle.quic_exchange.specs.Gone.{IsNoPayload}
+use Rattle.quic_exchange.specs.Notes.{Kept, row, rows, IsNoNote, FindsFrameOf, FailsToFindIn, MarksNote, MarksNoteIf, CanReport, RefusesNote}
+use Rattle.quic_exchange.specs.Unsettled.{goes_on, unsettled_after}
 use Rattle.quic_exchange.specs.State.{PairState, OnEnd, peer, the_end, with_end, with_sent, two_ends}
-use Rattle.quic_exchange.specs.Steps.{IsSentBy, Emits, Emitted, EndTakesFrame, Delivers, HandsOver, SentAfter, Reports, SettlesPayload}
-use Rattle.quic_exchange.proofs.Lists.{slice_get-set_same, slice_set-twice}
+use Rattle.quic_exchange.specs.Steps.{IsSentBy, Emits, Emitted, EndTakesFrame, HasPayload, Delivers, HandsOver, SentAfter, Reports, SettlesPayload}
+use Rattle.quic_exchange.proofs.Rows.{row-at, rows-set, no-note}
 
 pub sent-same : (p : PairState) (who : End) (e : EndState) → (with_end p who e).sent ≡ p.sent
 sent-same p A e = refl
@@ -61,102 +62,93 @@ module _ (old new : PairState) (who : End) (most : ℕ) (fair : Bool) (payload :
 
 -- ---- a frame is handed over
 
-pub deliver-refused : (old new : PairState) (n i : ℕ) (error : PairError) → FailsToFind old.sent n i error → new ≡ old → Delivers old n i (Err error) new
-deliver-refused old new n i refusals.NoSuchPayload h e = (h, e)
-deliver-refused old new n i refusals.NoSuchFrame h e = record { payload = record { sent = h.whole; is = h.is; here = h.here }; why = h.why; is = e }
-deliver-refused old new n i refusals.OutOfMemory h e = inl (record { sent = h.whole; is = h.is; here = h.here }, e)
-deliver-refused old new n i _ h e = absurd h
+module _ (k : End → Kept) (notes : List Note) (old : PairState) (s : old.sent ≡ rows k notes) where
+  there : (n : ℕ) (note : Note) → slice_get notes n ≡ Some note → slice_get old.sent n ≡ Some (row k note)
+  there n note is = ap (λ l. slice_get l n) s ∙ row-at k notes n note is
 
-module _ (old mid new : PairState) (n i : ℕ) (h : HandedFrame) (f : FindsFrame old.sent n i h) where
-  at_writer : (P : EndState → EndState → Type 0) → OnEnd P old (peer h.writer) mid → OnEnd P old (peer f.whole.writer) mid
-  at_writer P d = let Q : End → Type 0 = λ w. OnEnd P old (peer w) mid in subst Q f.writer d
+  absent : (n : ℕ) → IsNoNote notes n → IsNoPayload old.sent n
+  absent n h = let P : List Sent → Type 0 = λ l. IsNoPayload l n in subst P (sym s) (no-note k notes n h)
 
-  -- what was handed over, whatever the answer
-  handed : (answer : Result ShouldTransmit ReceiveError) → OnEnd (EndTakesFrame h.frame h.len answer) old (peer h.writer) mid → SentAfter old.sent n f.whole i answer new.sent → new ≡ with_sent mid new.sent
-      → HandsOver old n i (received_reply answer) new
-  handed answer d s e =
-      let o = at_writer (EndTakesFrame h.frame h.len answer) d in record {
-        payload = record { sent = f.whole; is = f.is; here = f.here };
-        frame = h.frame;
-        at = f.at;
-        answer = answer;
-        end = o.end;
-        receives = o.does.receives;
-        accounts = subst (λ n. AccountsFrame (the_end old (peer f.whole.writer)).streams h.frame n answer o.end.streams) f.length_is o.does.accounts;
-        reply_is = refl;
-        sent = s;
-        is = e ∙ ap (λ k. with_sent k new.sent) o.is;
-      }
+  pub deliver-refused : (new : PairState) (n i : ℕ) (error : PairError) → FailsToFindIn notes n i error → new ≡ old → Delivers old n i (Err error) new
+  deliver-refused new n i refusals.NoSuchPayload h e = (absent n h, e)
+  deliver-refused new n i refusals.NoSuchFrame h e = record { payload = record { sent = row k h.whole; is = there n h.whole h.is; here = h.here }; why = h.why; is = e }
+  deliver-refused new n i refusals.OutOfMemory h e = inl (record { sent = row k h.whole; is = there n h.whole h.is; here = h.here }, e)
+  deliver-refused new n i _ h e = absurd h
 
-  -- the marked payload is the one that was found
-  marked-so : (transmit : ShouldTransmit) → MarksAt old.sent n i new.sent → SentAfter old.sent n f.whole i (Ok transmit) new.sent
-  marked-so transmit m =
-      let w : m.whole ≡ f.whole = some_is m.whole f.whole (sym m.is ∙ f.is) in
-      let P : Sent → Type 0 = λ x. IsMarked x.text i m.text in
-      let Q : Sent → Type 0 = λ x. new.sent ≡ slice_set old.sent n (record x { text = m.text }) in
-      (m.text, subst P w m.marked, subst Q w m.new_is)
+  module _ (behind : List Note) (mid new : PairState) (t : new.sent ≡ rows k behind) (n i : ℕ) (h : HandedFrame) (f : FindsFrameOf notes n i h) where
+    at_writer : (P : EndState → EndState → Type 0) → OnEnd P old (peer h.writer) mid → OnEnd P old (peer f.whole.writer) mid
+    at_writer P d = let Q : End → Type 0 = λ w. OnEnd P old (peer w) mid in subst Q f.writer d
 
-  pub deliver-so : (answer : Result ShouldTransmit ReceiveError) → OnEnd (EndTakesFrame h.frame h.len answer) old (peer h.writer) mid → MarksIf answer old.sent n i new.sent → new ≡ with_sent mid new.sent
-      → Delivers old n i (received_reply answer) new
-  deliver-so (Ok transmit) d m e = handed (Ok transmit) d (marked-so transmit m) e
-  deliver-so (Err (receive_error.Transport error)) d m e = handed (Err (receive_error.Transport error)) d m e
-  deliver-so (Err receive_error.CompactionMemory) d m e = handed (Err receive_error.CompactionMemory) d m e
-  deliver-so (Err receive_error.OutOfMemory) d m e = inr (handed (Err receive_error.OutOfMemory) d m e)
-
--- ---- what is reported of a payload
-
-module _ (kind : Report) (At : EndState → SentView → Result (Unit {0}) SentView → EndState → Type 0) where
-  pub report-refused : (old new : PairState) (n : ℕ) (error : PairError) → FailsToTake old.sent n kind error → new ≡ old → SettlesPayload kind At old n (Err error) new
-  report-refused old new n refusals.NoSuchPayload h e = (h, e)
-  report-refused old new n refusals.AlreadySettled h e = record { payload = record { sent = h.whole; is = h.is; here = h.here }; why = h.why; is = e }
-  report-refused old new n refusals.NotAccepted h e = record { payload = record { sent = h.whole; is = h.is; here = h.here }; why = h.why; is = e }
-  report-refused old new n _ h e = absurd h.why
-
-  module _ (old taken mid new : PairState) (n : ℕ) (writer : End) (rest : SentPayload) (t : TakesRestAt old.sent n kind writer rest taken.sent) (answer : Result (Unit {0}) SentPayload) where
-    -- what the payload is behind the report
-    sents_so : (a : Result (Unit {0}) SentPayload) → KeepsBack taken.sent n kind a new.sent → new.sent ≡ slice_set old.sent n (record t.whole { unsettled = unsettled_after kind t.whole.unsettled a })
-    sents_so (Ok done) k = k ∙ t.new_is ∙ ap (slice_set old.sent n) t.takes.left
-    sents_so (Err back) k =
-        let there : slice_get taken.sent n ≡ Some t.taken = ap (λ l. slice_get l n) t.new_is ∙ slice_get-set_same old.sent n t.whole t.taken t.is in
-        k t.taken there ∙ ap (λ l. slice_set l n (record t.taken { unsettled = record { begun = Some kind; rest = Some back } })) t.new_is
-        ∙ slice_set-twice old.sent n t.taken (record t.taken { unsettled = record { begun = Some kind; rest = Some back } })
-        ∙ ap (λ (s : Sent). slice_set old.sent n (record s { unsettled = record { begun = Some kind; rest = Some back } })) t.takes.left
-
-    reported : OnEnd (λ e f. At e (sent_view rest) (report_view answer) f) taken writer mid → taken ≡ with_sent old taken.sent → KeepsBack taken.sent n kind answer new.sent → new ≡ with_sent mid new.sent → Reports kind At old n (report_reply answer) new
-    reported d e k is =
-        let P : End → Type 0 = λ w. OnEnd (λ x y. At x (sent_view rest) (report_view answer) y) taken w mid in
-        let o = subst P t.writer_is d in
-        let Q : EndState → Type 0 = λ x. At x (sent_view rest) (report_view answer) o.end in
-        record {
-          payload = record { sent = t.whole; is = t.is; here = t.here };
-          may = t.takes.may;
-          serves = t.takes.serves;
-          rest = rest;
-          rest_is = t.takes.rest_is;
+    -- what was handed over, whatever the answer
+    handed : (answer : Result ShouldTransmit ReceiveError) → OnEnd (EndTakesFrame h.frame h.len answer) old (peer h.writer) mid → SentAfter old.sent n (row k f.whole) i answer new.sent → new ≡ with_sent mid new.sent
+        → HandsOver old n i (received_reply answer) new
+    handed answer d after e =
+        let o = at_writer (EndTakesFrame h.frame h.len answer) d in record {
+          payload = record { sent = row k f.whole; is = there n f.whole f.is; here = f.here };
+          frame = h.frame;
+          at = f.at;
           answer = answer;
           end = o.end;
-          does = subst Q (ap (λ (v : PairState). the_end v t.whole.writer) e ∙ end_of t.whole.writer) o.does;
+          receives = o.does.receives;
+          accounts = subst (λ n. AccountsFrame (the_end old (peer f.whole.writer)).streams h.frame n answer o.end.streams) f.length_is o.does.accounts;
           reply_is = refl;
-          is = is ∙ ap (with_sent mid) (sents_so answer k) ∙ ap (λ (v : PairState). with_sent v behind) (o.is ∙ ap (λ (v : PairState). with_end v t.whole.writer o.end) e) ∙ sent_again t.whole.writer o.end;
+          sent = after;
+          is = e ∙ ap (λ v. with_sent v new.sent) o.is;
         }
-      where
-        behind : List Sent
-        behind = slice_set old.sent n (record t.whole { unsettled = unsettled_after kind t.whole.unsettled answer })
 
-        end_of : (w : End) → the_end (with_sent old taken.sent) w ≡ the_end old w
-        end_of A = refl
-        end_of B = refl
+    -- the marked payload is the one that was found
+    marked-so : (transmit : ShouldTransmit) → MarksNote notes n i behind → SentAfter old.sent n (row k f.whole) i (Ok transmit) new.sent
+    marked-so transmit m =
+        let w : m.whole ≡ f.whole = some_is m.whole f.whole (sym m.is ∙ f.is) in
+        let P : Note → Type 0 = λ x. IsMarked x.text i m.text in
+        let Q : Note → Type 0 = λ x. behind ≡ slice_set notes n (record x { text = m.text }) in
+        let marked : Note = record f.whole { text = m.text } in
+        (m.text, subst P w m.marked, t ∙ ap (rows k) (subst Q w m.new_is) ∙ rows-set k notes n marked ∙ ap (λ l. slice_set l n (row k marked)) (sym s))
 
-        sent_again : (w : End) (x : EndState) → with_sent (with_end (with_sent old taken.sent) w x) behind ≡ with_sent (with_end old w x) behind
-        sent_again A x = refl
-        sent_again B x = refl
+    same-so : behind ≡ notes → new.sent ≡ old.sent
+    same-so m = t ∙ ap (rows k) m ∙ sym s
 
-    pub report-so : OnEnd (λ e f. At e (sent_view rest) (report_view answer) f) taken writer mid → taken ≡ with_sent old taken.sent → KeepsBack taken.sent n kind answer new.sent → new ≡ with_sent mid new.sent → SettlesPayload kind At old n (report_reply answer) new
-    report-so d e k is = settled_by answer (reported d e k is)
-      where
-        settled_by : (a : Result (Unit {0}) SentPayload) → Reports kind At old n (report_reply a) new → SettlesPayload kind At old n (report_reply a) new
-        settled_by (Ok done) x = x
-        settled_by (Err back) x = x
+    pub deliver-so : (answer : Result ShouldTransmit ReceiveError) → OnEnd (EndTakesFrame h.frame h.len answer) old (peer h.writer) mid → MarksNoteIf answer notes n i behind → new ≡ with_sent mid new.sent
+        → Delivers old n i (received_reply answer) new
+    deliver-so (Ok transmit) d m e = handed (Ok transmit) d (marked-so transmit m) e
+    deliver-so (Err (receive_error.Transport error)) d m e = handed (Err (receive_error.Transport error)) d (same-so m) e
+    deliver-so (Err receive_error.CompactionMemory) d m e = handed (Err receive_error.CompactionMemory) d (same-so m) e
+    deliver-so (Err receive_error.OutOfMemory) d m e = inr (handed (Err receive_error.OutOfMemory) d (same-so m) e)
+
+  -- ---- what is reported of a payload
+
+  module _ (kind : Report) (At : EndState → SentView → Result (Unit {0}) SentView → EndState → Type 0) where
+    pub report-missing : (new : PairState) (n : ℕ) → IsNoNote notes n → new ≡ old → SettlesPayload kind At old n (Err refusals.NoSuchPayload) new
+    report-missing new n h e = (absent n h, e)
+
+    module _ (n : ℕ) (note : Note) (is : slice_get notes n ≡ Some note) (here : note.gone ≡ false) where
+      abbrev payload : HasPayload old n
+      payload = record { sent = row k note; is = there n note is; here = here }
+
+      pub report-refused : (new : PairState) (unsettled : Bool) → unsettled ≡ is_some (row k note).unsettled.rest → (error : PairError) → RefusesNote kind note unsettled error → new ≡ old → SettlesPayload kind At old n (Err error) new
+      report-refused new unsettled u refusals.AlreadySettled h e = record { payload = payload; why = ap (λ b. b && goes_on kind note.begun) (sym u) ∙ h; is = e }
+      report-refused new unsettled u refusals.NotAccepted h e = record { payload = payload; why = (ap (λ b. b && goes_on kind note.begun) (sym u) ∙ h.0, h.1, h.2); is = e }
+      report-refused new unsettled u _ h e = absurd h
+
+      pub report-so : (new : PairState) (rest : SentPayload) → (row k note).unsettled.rest ≡ Some rest → (unsettled : Bool) → unsettled ≡ is_some (row k note).unsettled.rest → CanReport kind note unsettled
+          → (answer : Result (Unit {0}) SentPayload) (end : EndState) → At (the_end old note.writer) (sent_view rest) (report_view answer) end
+          → new ≡ with_sent (with_end old note.writer end) (slice_set old.sent n (record (row k note) { unsettled = unsettled_after kind (row k note).unsettled answer })) → SettlesPayload kind At old n (report_reply answer) new
+      report-so new rest rest_is unsettled u can answer end does e = by answer (record {
+        payload = payload;
+        may = ap (λ b. b && goes_on kind note.begun) (sym u) ∙ can.may;
+        serves = can.serves;
+        rest = rest;
+        rest_is = rest_is;
+        answer = answer;
+        end = end;
+        does = does;
+        reply_is = refl;
+        is = e;
+      })
+        where
+          by : (a : Result (Unit {0}) SentPayload) → Reports kind At old n (report_reply a) new → SettlesPayload kind At old n (report_reply a) new
+          by (Ok done) x = x
+          by (Err back) x = x
 
 -- ---- a pair is made
 

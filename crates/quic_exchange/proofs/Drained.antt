@@ -149,7 +149,7 @@ beginning_within xs ys b = let n = length-append xs b.0 in let k = ap length b.1
 
 -- ---- one read
 
-module _ (p : Past) (sent : List Sent) (who : End) (id most times : ℕ) (kept : AcceptsKept p) (few : length (p.flow (peer who) id).written < times) (some : 0 < most) (m : MayDrain p sent who id) where
+module _ (p : Past) (sent : List Sent) (who : End) (id most times : ℕ) (kept : AcceptsKept p) (some : 0 < most) (m : MayDrain p sent who id) where
   abbrev f : Flow
   f = p.flow (peer who) id
 
@@ -176,12 +176,13 @@ module _ (p : Past) (sent : List Sent) (who : End) (id most times : ℕ) (kept :
             let P : List ℕ → Type 0 = λ w. IsAllGiven (slices g.given) (length w) in
             none.end (as_kept _ m.delivered.end) (subst P (sym same_written) (λ at l. given-at g.given true_of.in_order at (omega (arith, l, all))))
 
-    not_more : AreCut most chunks → length chunks ≡ times → ⊥
-    not_more cut count =
+    -- each chunk has a byte
+    as_asked : AreCut most chunks → length chunks ≡ times → times ≤ length g.written
+    as_asked cut count =
         let more = given_more most chunks f.given some cut in
         let n : length (given_in_order g.given) ≡ length (given_in_order (with_chunks_read true chunks f.given)) = ap (λ (k : Flow). length (given_in_order k.given)) is in
-        let w = within in
-        absurd (omega (arith, more, n, w, count, few))
+        let w : length (given_in_order g.given) ≤ length g.written = beginning_within (given_in_order g.given) g.written true_of.beginning in
+        omega (arith, more, n, w, count)
 
   -- what is known of the flow after a read
   abbrev flow_read : Answer → Flow
@@ -194,14 +195,14 @@ module _ (p : Past) (sent : List Sent) (who : End) (id most times : ℕ) (kept :
       flow-changed P (peer who) id change p id (λ e. refl) (λ n. absurd (let l = sym (itself id) ∙ n in cc))
 
   by_last : (chunks : Vec Chunk) (end : Last) (transmit : Bool) → ReadsTrue (past_read p who id true (Ok (Read chunks end transmit))) sent who id true most times (Ok (Read chunks end transmit))
-      → IsFaithful (flow_read (Ok (Read chunks end transmit))) (peer who) id p.accepted sent → DrainsBy end (flow_read (Ok (Read chunks end transmit)))
+      → IsFaithful (flow_read (Ok (Read chunks end transmit))) (peer who) id p.accepted sent → DrainsBy times chunks.items end (flow_read (Ok (Read chunks end transmit)))
   by_last chunks last.Blocked transmit r g = absurd (not_blocked chunks.items (flow_read (Ok (Read chunks last.Blocked transmit))) (read_is chunks last.Blocked transmit) g r.1)
   by_last chunks last.Ended transmit r g =
       let ended = ap (λ (k : Flow). k.ended) (read_is chunks last.Ended transmit) in
       record { all = (g.ended ended).1; ended = ended }
   by_last chunks (last.Reset code) transmit r g = absurd (m.unreset code r.1)
   by_last chunks last.Memory transmit r g = tt
-  by_last chunks last.More transmit r g = absurd (not_more chunks.items (flow_read (Ok (Read chunks last.More transmit))) (read_is chunks last.More transmit) g r.0 r.1)
+  by_last chunks last.More transmit r g = (r.1, as_asked chunks.items (flow_read (Ok (Read chunks last.More transmit))) (read_is chunks last.More transmit) g r.0 r.1)
 
   -- a reply of a read
   abbrev IsReadReply : Answer → Type 0
@@ -218,7 +219,7 @@ module _ (p : Past) (sent : List Sent) (who : End) (id most times : ℕ) (kept :
   read_replies (Err readable_error.OutOfMemory) = tt
 
   by_reply : (reply : Answer) → IsReadReply reply → ReadsTrue (past_read p who id true reply) sent who id true most times reply → IsKnownSo (p.ids who) id reply
-      → IsFaithful (flow_read reply) (peer who) id p.accepted sent → DrainsFlow reply (flow_read reply)
+      → IsFaithful (flow_read reply) (peer who) id p.accepted sent → DrainsFlow times reply (flow_read reply)
   by_reply (Ok (Read chunks end transmit)) w r k g = by_last chunks end transmit r g
   by_reply (Ok Closed) w r k g = absurd (elim r [
     | inl own ↦ m.receives own
@@ -246,13 +247,13 @@ module _ (a b : Origin) (h : History) (old new : PairState) (g : EraFrom a b h o
   p = past_of h
 
   drains_read : (who : End) (id : ℕ) (ordered : Bool) (most times : ℕ) (reply : Answer) → NextOrdinary old (steps.Read who id ordered most times) reply new → Drains p old.sent (steps.Read who id ordered most times) reply
-  drains_read who id false most times reply n = λ o some few m. cc
-  drains_read who id true most times reply n = λ o some few m.
+  drains_read who id false most times reply n = λ o some m. cc
+  drains_read who id true most times reply n = λ o some m.
       let step = steps.Read who id true most times in
       let kept = accepts-from g in
-      let W : Answer → Type 0 = λ r. IsReadReply p old.sent who id most times kept few some m r in
+      let W : Answer → Type 0 = λ r. IsReadReply p old.sent who id most times kept some m r in
       let is_reply : W reply = elim n.does [
-        | inl known ↦ subst W (sym known.1.reply_is) (read_replies p old.sent who id most times kept few some m known.1.answer)
+        | inl known ↦ subst W (sym known.1.reply_is) (read_replies p old.sent who id most times kept some m known.1.answer)
         | inr unknown ↦ subst W (sym unknown.1) tt
       ] in
       let all = headline-from (next step reply g n) (peer who) id in
@@ -260,7 +261,7 @@ module _ (a b : Origin) (h : History) (old new : PairState) (g : EraFrom a b h o
       let S : List Sent → Type 0 = λ l. IsFaithful ((past_read p who id true reply).flow (peer who) id) (peer who) id (past_read p who id true reply).accepted l in
       let L : List FramePlace → Type 0 = λ l. IsFaithful ((past_read p who id true reply).flow (peer who) id) (peer who) id l old.sent in
       let true_of = subst L (beside p (steps.Read who id true most times) reply tt).accepted (subst S (ap (λ (v : PairState). v.sent) n.is ∙ sent-same old who n.end) (subst H (past-after h step reply) all)) in
-      by_reply p old.sent who id most times kept few some m reply is_reply (readable-so a b h old new step reply g n) (refused-so None a b h old new step reply g n) true_of
+      by_reply p old.sent who id most times kept some m reply is_reply (readable-so a b h old new step reply g n) (refused-so None a b h old new step reply g n) true_of
 
   drains_next : (step : Step) (reply : Answer) → NextOrdinary old step reply new → Drains p old.sent step reply
   drains_next (steps.Read who id ordered most times) reply n = drains_read who id ordered most times reply n

@@ -306,7 +306,7 @@ module _ (s : Beginning) (h : History) (old new : PairState) (f : PairFrom s h o
   ]
 
   drains_refused : (step : Step) → (is_some old.waits && needs_decision step) ≡ true → Drains (past_of h) old.sent step (Err Undecided)
-  drains_refused (steps.Read who id ordered most times) early = λ in_order some few m. absurd (none_listed (none_accepted old.waits refl (and_left (is_some old.waits) (is_server who) early)) m.delivered.end.at m.delivered.end.listed)
+  drains_refused (steps.Read who id ordered most times) early = λ in_order some m. absurd (none_listed (none_accepted old.waits refl (and_left (is_some old.waits) (is_server who) early)) m.delivered.end.at m.delivered.end.listed)
   drains_refused _ early = tt
 
   drains_ordinary : (step : Step) (reply : Answer) → (is_some old.waits && needs_decision step) ≡ false → NextOrdinary old step reply new → Drains (past_of h) old.sent step reply

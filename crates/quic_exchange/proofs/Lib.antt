@@ -34,6 +34,7 @@ pub mod GivenSo
 pub mod Gives
 pub mod Gone
 pub mod Grown
+pub mod Handed
 pub mod Headlines
 pub mod Honest
 pub mod Joined
@@ -69,6 +70,7 @@ pub mod Readable
 pub mod Recounted
 pub mod RefusedSo
 pub mod Reports
+pub mod Rows
 pub mod Runs
 pub mod Served
 pub mod Settled

@@ -1,17 +1,16 @@
 -- Lemmas on many steps.
-use Rattle.std.proofs.Common.{◌≡◌, Option, List, [], ◌∷◌, ◌++◌, length, refl, ap, arith, append_assoc, append-nil}
+use Rattle.std.proofs.Common.{◌≡◌, List, [], ◌∷◌, ◌++◌, length, refl, ap, arith, append_assoc, append-nil}
 use Rattle.std.specs.List.{zip}
 use Rattle.quic_steps.specs.declared.steps.Step.{Step}
-use Rattle.quic_exchange.specs.declared.early.EarlyLimits.{EarlyLimits}
-use Rattle.quic_exchange.specs.Sent.{Sent}
 use Rattle.quic_exchange.specs.Replies.{Answer}
 use Rattle.quic_exchange.specs.State.{PairState}
 use Rattle.quic_exchange.specs.Steps.{Next}
-use Rattle.quic_exchange.specs.History.{History, Past, past_of, waits_from}
-use Rattle.quic_exchange.specs.From.{Beginning, waits_first, PairFrom, next}
-use Rattle.quic_exchange.specs.Runs.{StepByStep, none, more, TakesSteps, Behind, BehindEarly, Around, Throughout, IsTrueOf, StaysIfRefused, NetworkOf, AsksOf, WithholdsNone}
-use Rattle.quic_exchange.proofs.Leads.{headline-led, honest-led, stays-led, asks-led, not-withheld-led}
-use Rattle.quic_exchange.proofs.Network.{changes-network}
+use Rattle.quic_exchange.specs.History.{History}
+use Rattle.quic_exchange.specs.From.{Beginning, PairFrom, next}
+use Rattle.quic_exchange.specs.Promises.{HoldsOf, IsPromised, EachIsPromised}
+use Rattle.quic_exchange.specs.Runs.{StepByStep, none, more, TakesSteps, StaysIfRefused, NetworkOf}
+use Rattle.quic_exchange.proofs.Leads.{headline-led, honest-led, welcome-led, stays-led, refused-led, unrefused-led, readable-led, drains-led, asks-led, not-withheld-led}
+use Rattle.quic_exchange.proofs.Network.{changes-network, network-led}
 
 -- one more step and one more reply
 zip-behind : {X Y : Type 0} (xs : List X) (ys : List Y) (x : X) (y : Y) → length ys ≡ length xs → zip (xs ++ x ∷ []) (ys ++ y ∷ []) ≡ zip xs ys ++ (x, y) ∷ []
@@ -32,36 +31,27 @@ from-steps {s} {h} {old} f none = rw (append-nil h) f
 from-steps {s} {h} {old} f (more {taken} {between} {new} step reply run n each) =
     rw (← append_assoc h taken ((step, reply) ∷ [])) (next step reply (from-steps f run) n)
 
--- what holds of every step behind its history, holds of each step of a run
-pub each-behind : (Holds : Past → List Sent → Step → Answer → Type 0)
-    → ((s : Beginning) (h : History) (old new : PairState) (step : Step) (reply : Answer) → PairFrom s h old → Next old step reply new → Holds (past_of h) old.sent step reply)
-    → (s : Beginning) (h : History) (old : PairState) (taken : History) (new : PairState) → PairFrom s h old → TakesSteps old taken new → StepByStep (Behind Holds h) old taken new
-each-behind Holds holds s h old _ _ f none = none
-each-behind Holds holds s h old _ _ f (more {taken} {between} {new} step reply run n each) =
-    more step reply (each-behind Holds holds s h old taken between f run) n (holds s (h ++ taken) between new step reply (from-steps f run) n)
+-- what is promised of a pair to which steps led
+pub holds-led : {s : Beginning} {h : History} {v : PairState} → PairFrom s h v → HoldsOf s h v
+holds-led f = record { from = f; headline = headline-led f; honest = honest-led f; returned = network-led f; welcome = welcome-led f }
 
--- so does what holds by what is to be decided too
-pub each-early : (Holds : Option EarlyLimits → Past → List Sent → Step → Answer → Type 0)
-    → ((s : Beginning) (h : History) (old new : PairState) (step : Step) (reply : Answer) → PairFrom s h old → Next old step reply new → Holds (waits_from (waits_first s) h) (past_of h) old.sent step reply)
-    → (s : Beginning) (h : History) (old : PairState) (taken : History) (new : PairState) → PairFrom s h old → TakesSteps old taken new → StepByStep (BehindEarly Holds s h) old taken new
-each-early Holds holds s h old _ _ f none = none
-each-early Holds holds s h old _ _ f (more {taken} {between} {new} step reply run n each) =
-    more step reply (each-early Holds holds s h old taken between f run) n (holds s (h ++ taken) between new step reply (from-steps f run) n)
+-- of a step of it
+pub promises-led : (s : Beginning) (h : History) (old new : PairState) (step : Step) (reply : Answer) → PairFrom s h old → Next old step reply new → IsPromised s h old step reply new
+promises-led s h old new step reply f n = record {
+  behind = holds-led (next step reply f n);
+  refused = refused-led s h old new step reply f n;
+  unrefused = unrefused-led s h old new step reply f n;
+  readable = readable-led s h old new step reply f n;
+  drained = drains-led s h old new step reply f n;
+  due = asks-led s h old new step reply f n;
+  not_withheld = λ led. not-withheld-led s h old new step reply led n;
+}
 
--- so does what holds of the pair behind it, too
-pub each-around : (Holds : Past → List Sent → Step → Answer → PairState → Type 0)
-    → ((s : Beginning) (h : History) (old new : PairState) (step : Step) (reply : Answer) → PairFrom s h old → Next old step reply new → Holds (past_of h) old.sent step reply new)
-    → (s : Beginning) (h : History) (old : PairState) (taken : History) (new : PairState) → PairFrom s h old → TakesSteps old taken new → StepByStep (Around Holds h) old taken new
-each-around Holds holds s h old _ _ f none = none
-each-around Holds holds s h old _ _ f (more {taken} {between} {new} step reply run n each) =
-    more step reply (each-around Holds holds s h old taken between f run) n (holds s (h ++ taken) between new step reply (from-steps f run) n)
-
--- what holds of every pair behind its history, holds behind each step of a run
-pub each-after : (s : Beginning) (h : History) (old : PairState) (taken : History) (new : PairState) → PairFrom s h old → TakesSteps old taken new → StepByStep (Throughout IsTrueOf h) old taken new
-each-after s h old _ _ f none = none
-each-after s h old _ _ f (more {taken} {between} {new} step reply run n each) =
-    let g = from-steps f (more step reply run n each) in
-    more step reply (each-after s h old taken between f run) n (record { headline = headline-led g; honest = honest-led g })
+-- and of each step of a run
+pub each-promises : (s : Beginning) (h : History) (old : PairState) (taken : History) (new : PairState) → PairFrom s h old → TakesSteps old taken new → StepByStep (EachIsPromised s h) old taken new
+each-promises s h old _ _ f none = none
+each-promises s h old _ _ f (more {taken} {between} {new} step reply run n each) =
+    more step reply (each-promises s h old taken between f run) n (promises-led s (h ++ taken) between new step reply (from-steps f run) n)
 
 -- a refused step of a run left the pair as it was
 pub each-stays : (old : PairState) (taken : History) (new : PairState) → TakesSteps old taken new → StepByStep StaysIfRefused old taken new
@@ -74,15 +64,3 @@ pub each-network : (old : PairState) (taken : History) (new : PairState) → Tak
 each-network old _ _ none = none
 each-network old _ _ (more {taken} {between} {new} step reply run n each) =
     more step reply (each-network old taken between run) n (changes-network between new step reply n)
-
--- no step of a run withheld what was due
-pub each-asks : (s : Beginning) (h : History) (old : PairState) (taken : History) (new : PairState) → PairFrom s h old → TakesSteps old taken new → StepByStep AsksOf old taken new
-each-asks s h old _ _ f none = none
-each-asks s h old _ _ f (more {taken} {between} {new} step reply run n each) =
-    more step reply (each-asks s h old taken between f run) n (asks-led s (h ++ taken) between new step reply (from-steps f run) n)
-
--- nor what was permitted
-pub each-permits : (s : Beginning) (h : History) (old : PairState) (taken : History) (new : PairState) → PairFrom s h old → TakesSteps old taken new → StepByStep (WithholdsNone s h) old taken new
-each-permits s h old _ _ f none = none
-each-permits s h old _ _ f (more {taken} {between} {new} step reply run n each) =
-    more step reply (each-permits s h old taken between f run) n (λ led. not-withheld-led s (h ++ taken) between new step reply led n)

@@ -1,5 +1,6 @@
 -- What was delivered is read: the law of a stream all of which came.
-use Rattle.std.specs.Prelude.{ℕ, ◌≡◌, ◌<◌, true, false, List, length, Ok, Err}
+use Rattle.std.specs.Prelude.{ℕ, ◌≡◌, ◌<◌, ◌≤◌, true, false, List, length, Ok, Err}
+use Rattle.quic_assembler.specs.declared.chunk.Chunk.{Chunk}
 use Rattle.quic_receiving.specs.Data.{IsAllGiven}
 use Rattle.quic_history.specs.History.{slices}
 use Rattle.quic_link.specs.Endpoints.{IsOneOf}
@@ -33,21 +34,21 @@ pub record IsDrained (f : Flow) : Type 0 where
   pub all : IsAllGiven (slices f.given) (length f.written)
   pub ended : f.ended ≡ true
 
--- a read told the end, and then every byte was given, or there was no memory for a chunk
-abbrev pub DrainsBy : Last → Flow → Type 0
-DrainsBy last.Ended f = IsDrained f
-DrainsBy last.Memory f = Unit {0}
-DrainsBy _ f = ⊥
+-- a read told the end, and then every byte was given; or it gave as many chunks as it asked for, which are no more than bytes
+-- were written, since each has one; or there was no memory for a chunk
+abbrev pub DrainsBy : ℕ → List Chunk → Last → Flow → Type 0
+DrainsBy times chunks last.Ended f = IsDrained f
+DrainsBy times chunks last.More f = (length chunks ≡ times) × (times ≤ length f.written)
+DrainsBy times chunks last.Memory f = Unit {0}
+DrainsBy times chunks _ f = ⊥
 
 -- so it does, or memory ran out before it
-abbrev pub DrainsFlow : Answer → Flow → Type 0
-DrainsFlow (Ok (Read chunks last transmit)) f = DrainsBy last f
-DrainsFlow (Err NoMemory) f = Unit {0}
-DrainsFlow _ f = ⊥
+abbrev pub DrainsFlow : ℕ → Answer → Flow → Type 0
+DrainsFlow times (Ok (Read chunks last transmit)) f = DrainsBy times chunks.items last f
+DrainsFlow times (Err NoMemory) f = Unit {0}
+DrainsFlow times _ f = ⊥
 
--- where all was delivered, an ordered read that may give more chunks than bytes were written gives what was not given yet, and
--- tells the end
+-- where all was delivered, an ordered read gives what was not given yet, and tells the end, or gives all the chunks that it asked for
 abbrev pub Drains : Past → List Sent → Step → Answer → Type 0
-Drains p sent (steps.Read who id ordered most times) reply = ordered ≡ true → 0 < most → length (p.flow (peer who) id).written < times → MayDrain p sent who id
-    → DrainsFlow reply ((past_read p who id ordered reply).flow (peer who) id)
+Drains p sent (steps.Read who id ordered most times) reply = ordered ≡ true → 0 < most → MayDrain p sent who id → DrainsFlow times reply ((past_read p who id ordered reply).flow (peer who) id)
 Drains p sent _ reply = Unit {0}

@@ -8,8 +8,9 @@ pub mod History
 pub mod Honest
 pub mod Law
 pub mod Network
+pub mod Notes
 pub mod Payloads
-pub mod Places
+pub mod Promises
 pub mod Readable
 pub mod Refused
 pub mod Replies

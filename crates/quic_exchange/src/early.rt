@@ -1,14 +1,16 @@
 //! What a client sends before the handshake is done (RFC 9001 section 4.6).
 
-ghost use Rattle.std.specs.Prelude.{◌≡◌, IfOk, OnOk, true, false};
+ghost use Rattle.std.specs.Prelude.{◌≡◌, OnOk, true, false, option_copied};
 ghost use Rattle.quic_link.specs.Endpoints.{LimitsWithin};
 ghost use Rattle.quic_retransmits.specs.Pending.{pending_view};
-ghost use Rattle.quic_exchange.specs.Gone.{HaveLeft, with_noted, with_all_noted};
+ghost use Rattle.quic_exchange.specs.Gone.{with_noted};
+ghost use Rattle.quic_exchange.specs.Notes.{HaveLeftNetwork};
 ghost use Rattle.quic_exchange.specs.Steps.{needs_decision, is_server};
 
-use crate::sent::Sent;
+use crate::sent::Note;
+use crate::unsettled::noted;
 use quic_steps::{End, Step};
-use quic_streams::{PeerLimits, Retransmits};
+use quic_streams::{PeerLimits, Retransmits, SentPayload};
 use quic_values::OutOfMemory;
 use std::alloc::Global;
 
@@ -76,11 +78,11 @@ pub fn needs_decision(step: &Step) -> bool
     }
 }
 
-// What was noted of a payload is joined to what is pending, if something of it is unreported.
-fn join_noted(pending: &mut Retransmits, payload: &Sent) -> Result<(), OutOfMemory>
-    ensures { OnOk result (pending_view pending.new ≡ with_noted (pending_view pending.old) payload.now.unsettled.rest) }
+/// What was noted of a payload is joined to what is pending, if something of it is unreported.
+pub fn join_noted(pending: &mut Retransmits, rest: Option<&SentPayload>) -> Result<(), OutOfMemory>
+    ensures { OnOk result (pending_view pending.new ≡ with_noted (pending_view pending.old) (option_copied rest.entry)) }
 {
-    match payload.unsettled.noted() {
+    match noted(rest) {
         None => Ok(()),
         Some(noted) => match pending.merge(noted.clone()?) {
             Ok(()) => Ok(()),
@@ -89,20 +91,9 @@ fn join_noted(pending: &mut Retransmits, payload: &Sent) -> Result<(), OutOfMemo
     }
 }
 
-/// What is pending, with what was noted of each payload of which something is unreported.
-pub fn with_all_noted(pending: &Retransmits, sent: &[Sent]) -> Result<Retransmits, OutOfMemory>
-    ensures { IfOk result (λ all. pending_view all ≡ with_all_noted (pending_view pending.now) sent.now) }
-{
-    let mut all = pending.clone()?;
-    for index in 0..sent.len() {
-        join_noted(&mut all, &sent[index])?;
-    }
-    Ok(all)
-}
-
 /// All payloads leave the network.
-pub fn leave_all(alloc: Global, sent: &mut Vec<Sent>)
-    ensures { HaveLeft sent.old.items sent.new.items }
+pub fn leave_all(alloc: Global, sent: &mut Vec<Note>)
+    ensures { HaveLeftNetwork sent.old.items sent.new.items }
 {
     for index in 0..sent.len() {
         sent[index].leave(alloc);

@@ -1,12 +1,11 @@
 //! What the calls of an end are replied.
 
 ghost use Rattle.std.specs.Prelude.{◌≡◌};
-ghost use Rattle.quic_exchange.specs.Replies.{accepted_reply, opened_reply, unwritten_reply, chunks_reply, finished_reply, unfinished_reply, unhandled_reply, handled_reply, code_reply, last_of, unread_reply, read_reply, event_reply, done_reply, report_reply, received_reply, payload_reply};
+ghost use Rattle.quic_exchange.specs.Replies.{accepted_reply, opened_reply, unwritten_reply, chunks_reply, finished_reply, unfinished_reply, unhandled_reply, handled_reply, code_reply, last_of, unread_reply, read_reply, event_reply, done_reply, received_reply, payload_reply};
 
 use quic_receiving::{HandleError, ReadableError, ShouldTransmit};
 use quic_sending::{FinishError, WriteError, Written};
 use quic_steps::{Last, PairError, Reply};
-use quic_streams::SentPayload;
 use quic_streams::batches::ReadSome;
 use quic_streams::progress::LastAnswer;
 use quic_values::{OutOfMemory, StreamId, VarInt};
@@ -158,16 +157,6 @@ pub fn done_reply(answer: Result<(), OutOfMemory>) -> Result<Reply, PairError>
     match answer {
         Ok(()) => Ok(Reply::Done),
         Err(_) => Err(PairError::OutOfMemory),
-    }
-}
-
-/// What a report of a payload is replied, of which this came.
-pub fn report_reply(answer: &Result<(), SentPayload>) -> Result<Reply, PairError>
-    ensures { result ≡ report_reply answer.now }
-{
-    match answer {
-        Ok(()) => Ok(Reply::Done),
-        Err(_back) => Err(PairError::OutOfMemory),
     }
 }
 

@@ -1,81 +1,55 @@
 //! Payloads that were sent, and the frames in them.
 
-ghost use Rattle.std.specs.Prelude.{◌≡◌, ◌≤◌, ◌⊎◌, [], length, true, false, slice_get, IfOk, IfErr, OnOk, OnErr, Err, Some, None};
+ghost use Rattle.std.specs.Prelude.{◌≡◌, ◌≤◌, ◌⊎◌, [], length, true, false, slice_get, IfOk, IfErr, OnOk, OnErr, Err, None, Some};
 ghost use Rattle.quic_endpoint.specs.Receiving.{data_length};
 ghost use Rattle.quic_exchange.specs.Payloads.{AreRead, IsFrameAt, LacksFrame, IsReadyToMark, IsMarked, AreAllAccepted, LacksAccepted, AreSet, LacksMark, AreFreshMarks, has_data};
-ghost use Rattle.quic_exchange.specs.Gone.{IsGone};
-ghost use Rattle.quic_exchange.specs.Reports.{TakesRest, RefusesReport};
+ghost use Rattle.quic_exchange.specs.Notes.{HasLeftNetwork};
 
-use crate::unsettled::{Report, Unsettled};
-use quic_endpoint::Payload;
+use crate::unsettled::Report;
 use quic_steps::{End, PairError};
-use quic_streams::SentPayload;
 use quic_values::{Dir, OutOfMemory, StreamId};
 use quic_wire::frame::{Datagram, Stream};
 use quic_wire::{DecodeError, Frame, decode};
 use std::alloc::Global;
 use std::marker::Model;
 
-/// A payload that an end wrote.
+/// A payload that an endpoint wrote. What a loss or an acknowledgement of it would still report, that endpoint keeps under
+/// the token.
 #[derive(Drop)]
-pub struct Sent {
-    /// The end.
+pub struct Note {
+    /// The endpoint that wrote it.
     pub writer: End,
-    pub unsettled: Unsettled,
+    /// Its token there, until it leaves the network.
+    pub token: Option<u64>,
+    /// The report that was begun, for the rest of which there was no memory.
+    pub begun: Option<Report>,
     pub text: SentText,
-    /// It left the network.
+    /// Whether it left the network.
     pub gone: bool,
 }
 
-impl Model for Sent {
-    ghost use Rattle.quic_exchange.specs.Sent.{Sent as SentValue};
-    ghost use Rattle.quic_streams.specs.contracts.settling.SentPayload as payload;
-    ghost use Rattle.std.specs.Coded.{codes};
-
-    ghost Value = { SentValue };
-
-    ghost coded = { Prim.hlevel (codes, payload.the_row.coded) };
-
-    ghost view = { λ s. record { writer = s.writer; unsettled = s.unsettled; text = s.text; gone = s.gone } };
-}
-
-impl Sent {
-    pub fn new(alloc: Global, writer: End, payload: Payload) -> Self
-        ensures { result ≡ record { writer = writer; unsettled = record { begun = None; rest = Some payload.sent }; text = record { bytes = payload.bytes.items; accepted = [] }; gone = false } }
+impl Note {
+    /// A payload that was just written, of which nothing was delivered.
+    pub fn new(alloc: Global, writer: End, token: u64, bytes: Vec<u8>) -> Self
+        ensures { result ≡ record { writer = writer; token = Some token; begun = None; text = record { bytes = bytes.items; accepted = [] }; gone = false } }
     {
-        Sent {
+        Note {
             writer,
-            unsettled: Unsettled::new(payload.sent),
-            text: SentText::new(alloc, payload.bytes),
+            token: Some(token),
+            begun: None,
+            text: SentText::new(alloc, bytes),
             gone: false,
         }
     }
 
-    /// It leaves the network, and nothing of it is kept.
+    /// It leaves the network: its bytes are dropped, and nothing of it is reported any more.
     pub fn leave(&mut self, alloc: Global)
-        ensures { IsGone self.new }
+        ensures { HasLeftNetwork self.new }
     {
         self.gone = true;
-        self.unsettled.leave();
+        self.token = None;
+        self.begun = None;
         self.text = SentText::new(alloc, Vec::new(alloc));
-    }
-
-    /// Takes what is unreported out, for a report of a kind.
-    pub fn take_rest(&mut self, kind: Report) -> Result<SentPayload, PairError>
-        ensures taken { IfOk result (λ rest. TakesRest kind self.old rest self.new) }
-        ensures same { IfErr result (λ error. self.new ≡ self.old) }
-        ensures refused { IfErr result (RefusesReport kind self.old) }
-    {
-        if !self.unsettled.may_report(kind) {
-            return Err(PairError::AlreadySettled);
-        }
-        if kind.needs_acceptance() && !self.text.is_all_accepted() {
-            return Err(PairError::NotAccepted);
-        }
-        match self.unsettled.take() {
-            Some(rest) => Ok(rest),
-            None => Err(PairError::AlreadySettled),
-        }
     }
 }
 

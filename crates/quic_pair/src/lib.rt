@@ -2,6 +2,8 @@
 #![tactic(auto)]
 
 mod calls;
+mod emitting;
+mod ends;
 pub mod pair;
 mod settle;
 

@@ -3,22 +3,15 @@
 ghost use Rattle.std.specs.Prelude.{◌≡◌, is_some, true, ◌⊎◌, ◌≤◌, ◌<◌, IfSome, IfNone, IfErr, None, Err, OnOk, OnErr, List, [], ◌∷◌, length, vec_len, vec_capacity, ◌++◌};
 ghost use Rattle.quic_pair.specs.Shown.{pair_view};
 ghost use Rattle.quic_exchange.specs.Steps.{NextTaken};
-ghost use Rattle.quic_exchange.specs.Runs.{TakesSteps, StepsBy, StepByStep, Behind, BehindEarly, Around, Throughout, IsTrueOf, StaysIfRefused, NetworkOf, AsksOf, WithholdsNone, sendings_of};
-ghost use Rattle.quic_exchange.specs.History.{History, past_of};
+ghost use Rattle.quic_exchange.specs.Runs.{TakesSteps, StepsBy, StepByStep, StaysIfRefused, NetworkOf};
+ghost use Rattle.quic_exchange.specs.Promises.{EachIsPromised, HoldsOf, Completes};
+ghost use Rattle.quic_exchange.specs.History.{History};
 ghost use Rattle.quic_exchange.specs.From.{Beginning, PairFrom};
-ghost use Rattle.quic_exchange.specs.Tale.{Told};
-ghost use Rattle.quic_exchange.specs.Headline.{Headline};
-ghost use Rattle.quic_exchange.specs.Honest.{AreHonest};
-ghost use Rattle.quic_exchange.specs.Network.{IsNetworkOf};
-ghost use Rattle.quic_exchange.specs.Refused.{IsRefusedSo};
-ghost use Rattle.quic_exchange.specs.Unrefused.{RefusesNoFrame, AreAllWelcome};
-ghost use Rattle.quic_exchange.specs.Readable.{WithholdsNothing};
-ghost use Rattle.quic_exchange.specs.Law.{Drains};
-ghost use Rattle.quic_exchange.specs.Settling.{AreSettledIn, IsSoughtFor, IsSettledAt, is_quiet_at, IsSettling, IsCutOff, IsOutOfMemory, IsUndecided, TakesPhaseOrNone, IsAllReported, AreIdle, LeavesNoRest};
-ghost use Rattle.quic_exchange.specs.Completed.{HaveArrived, HaveBeenRead, HaveBeenTold, AreAllAcked, AreStopsTold};
+ghost use Rattle.quic_exchange.specs.Settling.{AreSettledIn, IsSoughtFor, IsSettledAt, is_quiet_at, IsSettling, IsCutOff, IsOutOfMemory, IsUndecided, TakesPhaseOrNone};
 
 use crate::pair::Pair;
 use quic_exchange::phase::{Phase, behind_reports, going_of};
+use quic_exchange::unsettled::is_quiet;
 use quic_steps::{PairError, Reply, Step};
 use quic_values::OutOfMemory;
 
@@ -37,20 +30,10 @@ impl Pair {
     /// error is [`PairError::Undecided`].
     pub fn settle(&mut self) -> (Vec<StepTaken>, Result<(), PairError>)
         ensures next { TakesSteps (pair_view self.old) result.0.items (pair_view self.new) }
-        ensures from { (s : Beginning) (h : History) → PairFrom s h (pair_view self.old) → PairFrom s (h ++ result.0.items) (pair_view self.new) }
-        ensures headline { (s : Beginning) (h : History) → PairFrom s h (pair_view self.old) → Headline (past_of (h ++ result.0.items)) (pair_view self.new).sent }
-        ensures honest { (s : Beginning) (h : History) → PairFrom s h (pair_view self.old) → AreHonest (past_of (h ++ result.0.items)) (pair_view self.new) }
-        ensures refused { (s : Beginning) (h : History) → PairFrom s h (pair_view self.old) → StepByStep (BehindEarly IsRefusedSo s h) (pair_view self.old) result.0.items (pair_view self.new) }
-        ensures throughout { (s : Beginning) (h : History) → PairFrom s h (pair_view self.old) → StepByStep (Throughout IsTrueOf h) (pair_view self.old) result.0.items (pair_view self.new) }
+        ensures promises { (s : Beginning) (h : History) → PairFrom s h (pair_view self.old) → StepByStep (EachIsPromised s h) (pair_view self.old) result.0.items (pair_view self.new) }
+        ensures behind { (s : Beginning) (h : History) → PairFrom s h (pair_view self.old) → HoldsOf s (h ++ result.0.items) (pair_view self.new) }
         ensures unchanged { StepByStep StaysIfRefused (pair_view self.old) result.0.items (pair_view self.new) }
         ensures network { StepByStep NetworkOf (pair_view self.old) result.0.items (pair_view self.new) }
-        ensures returned { (s : Beginning) (h : History) → PairFrom s h (pair_view self.old) → IsNetworkOf (h ++ result.0.items) (pair_view self.new).sent }
-        ensures welcome { (s : Beginning) (h : History) → PairFrom s h (pair_view self.old) → AreAllWelcome (pair_view self.new) }
-        ensures unrefused { (s : Beginning) (h : History) → PairFrom s h (pair_view self.old) → StepByStep (Around RefusesNoFrame h) (pair_view self.old) result.0.items (pair_view self.new) }
-        ensures readable { (s : Beginning) (h : History) → PairFrom s h (pair_view self.old) → StepByStep (Behind WithholdsNothing h) (pair_view self.old) result.0.items (pair_view self.new) }
-        ensures drained { (s : Beginning) (h : History) → PairFrom s h (pair_view self.old) → StepByStep (Behind Drains h) (pair_view self.old) result.0.items (pair_view self.new) }
-        ensures due { (s : Beginning) (h : History) → PairFrom s h (pair_view self.old) → StepByStep AsksOf (pair_view self.old) result.0.items (pair_view self.new) }
-        ensures not_withheld { (s : Beginning) (h : History) → PairFrom s h (pair_view self.old) → StepByStep (WithholdsNone s h) (pair_view self.old) result.0.items (pair_view self.new) }
         ensures order { OnOk result.1 (IsSettling (pair_view self.old) result.0.items (pair_view self.new)) }
         ensures cut_off { result.1 ≡ Err PairError.OutOfMemory → IsCutOff (pair_view self.old) result.0.items (pair_view self.new) }
         ensures memory { result.1 ≡ Err PairError.OutOfMemory → IsOutOfMemory result.0.items (vec_capacity result.0) }
@@ -58,17 +41,10 @@ impl Pair {
         ensures undecided { result.1 ≡ Err PairError.Undecided → IsUndecided (pair_view self.old) result.0.items (pair_view self.new) }
         ensures decided { OnOk result.1 ((pair_view self.old).waits ≡ None) }
         ensures only { IfErr result.1 (λ e. (e ≡ PairError.OutOfMemory) ⊎ (e ≡ PairError.Undecided)) }
-        ensures reported { OnOk result.1 ((s : Beginning) (h : History) → PairFrom s h (pair_view self.old) → IsAllReported (h ++ result.0.items) (pair_view self.new).sent) }
-        ensures idle { OnOk result.1 ((s : Beginning) (h : History) → PairFrom s h (pair_view self.old) → AreIdle (pair_view self.new)) }
-        ensures sent { OnOk result.1 ((s : Beginning) (h : History) → PairFrom s h (pair_view self.old) → (led : PairFrom s (h ++ result.0.items) (pair_view self.new)) → LeavesNoRest (Told s (sendings_of led))) }
-        ensures acked { OnOk result.1 ((s : Beginning) (h : History) → PairFrom s h (pair_view self.old) → (led : PairFrom s (h ++ result.0.items) (pair_view self.new)) → AreAllAcked (Told s (sendings_of led))) }
-        ensures arrived { OnOk result.1 ((s : Beginning) (h : History) → PairFrom s h (pair_view self.old) → HaveArrived (past_of (h ++ result.0.items)) (pair_view self.new).sent) }
-        ensures read { OnOk result.1 ((s : Beginning) (h : History) → PairFrom s h (pair_view self.old) → HaveBeenRead (past_of (h ++ result.0.items))) }
-        ensures told { OnOk result.1 ((s : Beginning) (h : History) → PairFrom s h (pair_view self.old) → HaveBeenTold (past_of (h ++ result.0.items))) }
-        ensures stops { OnOk result.1 ((s : Beginning) (h : History) → PairFrom s h (pair_view self.old) → (led : PairFrom s (h ++ result.0.items) (pair_view self.new)) → AreStopsTold (Told s (sendings_of led)) (past_of (h ++ result.0.items))) }
+        ensures completes { OnOk result.1 ((s : Beginning) (h : History) → PairFrom s h (pair_view self.old) → Completes s (h ++ result.0.items) (pair_view self.new)) }
     {
-        let mut taken = Vec::new(self.alloc);
-        if self.waits.is_some() {
+        let mut taken = Vec::new(self.ends.alloc);
+        if self.ends.waits.is_some() {
             return (taken, Err(PairError::Undecided));
         }
         match self.settle_into(&mut taken) {
@@ -78,7 +54,8 @@ impl Pair {
     }
 
     fn settle_into(&mut self, taken: &mut Vec<StepTaken>) -> Result<(), OutOfMemory>
-        requires { taken.old.items ≡ [] }
+        requires none { taken.old.items ≡ [] }
+        requires decided { (pair_view self.old).waits ≡ None }
         ensures next { StepsBy NextTaken (λ before between step reply after. Unit {0}) (pair_view self.old) taken.new.items (pair_view self.new) }
         ensures order { OnOk result (IsSettling (pair_view self.old) taken.new.items (pair_view self.new)) }
         ensures cut_off { OnErr result (IsCutOff (pair_view self.old) taken.new.items (pair_view self.new)) }
@@ -94,12 +71,13 @@ impl Pair {
 
     // Takes the step of a phase, and notes it with its reply. Answers what is next.
     fn take(&mut self, phase: Phase, taken: &mut Vec<StepTaken>) -> Result<Phase, OutOfMemory>
+        requires { (pair_view self.old).waits ≡ None }
         ensures takes { TakesPhaseOrNone (pair_view self.old) taken.old.items phase result (pair_view self.new) taken.new.items }
         ensures memory { OnErr result (IsOutOfMemory taken.new.items (vec_capacity taken.new)) }
     {
         taken.reserve(1)?;
-        let sent = self.sent.len();
-        let reply = self.dispatch(phase.step());
+        let sent = self.ends.count();
+        let reply = self.step(phase.step());
         let going = going_of(&reply);
         note(taken, phase.step(), reply);
         match going {
@@ -112,10 +90,7 @@ impl Pair {
     fn is_quiet(&self, payload: usize) -> bool
         ensures { result ≡ is_quiet_at (pair_view self.now).sent payload }
     {
-        match self.sent.get(payload) {
-            Some(sent) => sent.unsettled.is_quiet(),
-            None => true,
-        }
+        is_quiet(self.ends.rest(payload))
     }
 
     // Where payloads are reported, the phase of the next that is not settled.
@@ -134,7 +109,7 @@ impl Pair {
         ensures { IsSoughtFor (pair_view self.now).sent (Phase.Report from quiet) result }
     {
         let number = self.unsettled_from(from);
-        if number < self.sent.len() {
+        if number < self.ends.count() {
             return Phase::Report(number, quiet);
         }
         behind_reports(quiet)
@@ -145,11 +120,11 @@ impl Pair {
         ensures none { IfNone result (AreSettledIn 0 (length (pair_view self.now).sent) (pair_view self.now).sent) }
     {
         let number = self.unsettled_from(from);
-        if number < self.sent.len() {
+        if number < self.ends.count() {
             return Some(Phase::Drop(number));
         }
         let number = self.unsettled_from(0);
-        if number < self.sent.len() {
+        if number < self.ends.count() {
             return Some(Phase::Report(number, true));
         }
         None
@@ -160,13 +135,12 @@ impl Pair {
         ensures from { from ≤ result }
         ensures settled { AreSettledIn from result (pair_view self.now).sent }
     {
-        for number in from..self.sent.len() {
-            let whole = &self.sent[number];
-            if !whole.unsettled.is_settled() {
+        for number in from..self.ends.count() {
+            if self.ends.rest(number).is_some() {
                 return number;
             }
         }
-        self.sent.len().max(from)
+        self.ends.count().max(from)
     }
 }
 
