@@ -1,5 +1,5 @@
 -- What a session answers to its lines.
-use Rattle.std.specs.Prelude.{◌≡◌, ◌⊎◌, ◌+◌, ◌<◌, ℕ, List, [], ◌++◌, length, Option, Result, Ok, Err, OnOk, IfErr, Some, codes}
+use Rattle.std.specs.Prelude.{true, false, ◌≡◌, ◌⊎◌, ◌+◌, ◌-◌, ◌^◌, ◌<◌, ℕ, List, [], ◌++◌, length, Option, Result, Ok, Err, OnOk, IfErr, Some, codes, string_bytes}
 use Rattle.std.specs.Fmt.{decimal}
 use Rattle.std.specs.List.{flat_map}
 use Rattle.std.specs.Str.{IsAscii}
@@ -15,14 +15,16 @@ use Rattle.quic_exchange.specs.State.{PairState}
 use Rattle.quic_pair.specs.Shown.{pair_view}
 use Rattle.quic_exchange.specs.Steps.{Next}
 use Rattle.quic_exchange.specs.From.{Beginning, at_once, PairFrom}
-use Rattle.quic_exchange.specs.History.{History, past_of}
+use Rattle.quic_exchange.specs.History.{History}
 use Rattle.quic_exchange.specs.Runs.{TakesSteps}
 use Rattle.quic_exchange.specs.Settling.{IsSettling, IsCutOff, IsUndecided}
-use Rattle.quic_exchange.specs.Completed.{HaveArrived, HaveBeenRead, HaveBeenTold}
+use Rattle.quic_exchange.specs.Promises.{Completes}
 use Rattle.streampair.specs.declared.session.Session.{Session}
-use Rattle.streampair.specs.declared.session.Session.TheVariants.{Start, Configured, Ready, Running}
+use Rattle.streampair.specs.declared.session.Session.TheVariants.{Start, Configured, Joined}
+use Rattle.streampair.specs.declared.session.Text.{Text}
+use Rattle.streampair.specs.declared.session.Text.TheVariants as texts
 use Rattle.streampair.specs.declared.session.Stop.{Stop}
-use Rattle.streampair.specs.declared.session.Stop.TheVariants.{Malformed, NoPair, Failed}
+use Rattle.streampair.specs.declared.session.Stop.TheVariants.{Malformed, NoPair, Failed, OutOfMemory, TooManyLines}
 use Rattle.quic_lines.specs.declared.lines.LineError.{LineError}
 use Rattle.quic_lines.specs.declared.lines.LineError.TheVariants as lines
 use Rattle.quic_steps.specs.declared.steps.End.TheVariants.{A, B}
@@ -32,10 +34,14 @@ use Rattle.quic_lines.specs.Line.{reply_text, refusal_text}
 abbrev pub ok_line : List ℕ
 ok_line = codes "ok\n"
 
+abbrev pub text_bytes : Text → List ℕ
+text_bytes texts.Ok = ok_line
+text_bytes (texts.Lines lines) = string_bytes lines
+
 -- how a session ends for a line that is no step
 abbrev pub stop_of : LineError → ℕ → Stop
 stop_of lines.Malformed number = Malformed number
-stop_of lines.OutOfMemory number = Failed
+stop_of lines.OutOfMemory number = OutOfMemory
 
 -- the line that answers a step
 abbrev pub answer_line : Answer → List ℕ
@@ -56,7 +62,7 @@ pub record TakesStep (line : List ℕ) (old : PairState) (text : List ℕ) (new 
 
 -- a session stands behind both configs, and its pair is made of them
 abbrev pub IsMadeOf : Config → Config → Session → Type 0
-IsMadeOf a b (Ready x y pair) = (x ≡ a) × (y ≡ b) × PairFrom (at_once a b) [] (pair_view pair)
+IsMadeOf a b (Joined x y pair true) = (x ≡ a) × (y ≡ b) × PairFrom (at_once a b) [] (pair_view pair)
 IsMadeOf a b _ = ⊥
 
 -- the second line has the config b
@@ -91,9 +97,7 @@ pub record IsSettlement (old : PairState) (text : List ℕ) (new : PairState) : 
   pub cut_off : answer ≡ Err NoMemory → IsCutOff old taken new
   pub undecided : answer ≡ Err Undecided → IsUndecided old taken new
   pub only : IfErr answer (λ error. (error ≡ NoMemory) ⊎ (error ≡ Undecided))
-  pub arrived : OnOk answer ((s : Beginning) (h : History) → PairFrom s h old → HaveArrived (past_of (h ++ taken)) new.sent)
-  pub read : OnOk answer ((s : Beginning) (h : History) → PairFrom s h old → HaveBeenRead (past_of (h ++ taken)))
-  pub told : OnOk answer ((s : Beginning) (h : History) → PairFrom s h old → HaveBeenTold (past_of (h ++ taken)))
+  pub completes : OnOk answer ((s : Beginning) (h : History) → PairFrom s h old → Completes s (h ++ taken) new)
   pub text_is : text ≡ settlement_text taken answer
 
 -- the line asked for that
@@ -113,16 +117,9 @@ AnswersReady a b old line text new = StartsEarly a b line text new ⊎ AnswersRu
 abbrev pub Answers : Session → List ℕ → List ℕ → Session → Type 0
 Answers Start line text (Configured config) = MeansConfig line A config × (text ≡ ok_line)
 Answers (Configured config) line text session = IsReady config line text session
-Answers (Ready a b old) line text (Running new) = AnswersReady a b (pair_view old) line text (pair_view new)
-Answers (Running old) line text (Running new) = AnswersRunning (pair_view old) line text (pair_view new)
+Answers (Joined a b old true) line text (Joined c d new false) = AnswersReady a b (pair_view old) line text (pair_view new)
+Answers (Joined a b old false) line text (Joined c d new false) = AnswersRunning (pair_view old) line text (pair_view new)
 Answers _ line text _ = ⊥
-
--- a session took a line, and its answer was written
-pub record AnswersLine (session : Session) (line : List ℕ) (old new : Option (List ℕ)) (next : Session) : Type 0 where
-  pub ascii : IsAscii line
-  pub text : List ℕ
-  pub answers : Answers session line text next
-  pub writes : Appends old new text
 
 -- a line behind the configs is no step, and asks for no settling
 abbrev pub MeansNoLine : List ℕ → Type 0
@@ -132,18 +129,27 @@ MeansNoLine line = MeansNoStep line × (MeansSettle line → ⊥)
 abbrev pub MeansNothing : Session → List ℕ → Type 0
 MeansNothing Start line = MeansNoConfig line A
 MeansNothing (Configured config) line = MeansNoConfig line B
-MeansNothing (Ready a b pair) line = MeansNoLine line × MeansNoEarly line
-MeansNothing (Running pair) line = MeansNoLine line
+MeansNothing (Joined a b pair true) line = MeansNoLine line × MeansNoEarly line
+MeansNothing (Joined a b pair false) line = MeansNoLine line
 
--- a line that was not taken stopped a session: where it is malformed, this is its number, and it spells nothing
-abbrev pub IsStopOf : ℕ → Type 0 → Stop → Type 0
-IsStopOf number nothing (Malformed told) = (told ≡ number) × nothing
-IsStopOf number nothing _ = Unit {0}
+-- a line has the client remember some limits
+abbrev pub IsEarlyLine : List ℕ → Type 0
+IsEarlyLine line = (remembered : PeerLimits) × MeansEarly line remembered
 
--- a line was not answered: where it is malformed, this is its number, it spells nothing, and nothing was written
-abbrev pub StopsWith : ℕ → Session → List ℕ → Option (List ℕ) → Option (List ℕ) → Stop → Type 0
-StopsWith number session line old new (Malformed told) = (told ≡ number) × (new ≡ old) × MeansNothing session line
-StopsWith number session line old new _ = Unit {0}
+-- a line for which a pair is made
+abbrev pub IsPairDue : Session → List ℕ → Type 0
+IsPairDue Start line = ⊥
+IsPairDue (Configured a) line = (b : Config) × MeansConfig line B b
+IsPairDue (Joined a b pair true) line = IsEarlyLine line
+IsPairDue (Joined a b pair false) line = ⊥
+
+-- why a line has no reply: it is this one and spells nothing, a pair was due for it, or memory ran out
+abbrev pub IsStopOf : ℕ → Type 0 → Type 0 → Stop → Type 0
+IsStopOf number nothing due (Malformed told) = (told ≡ number) × nothing
+IsStopOf number nothing due NoPair = due
+IsStopOf number nothing due OutOfMemory = Unit {0}
+IsStopOf number nothing due Failed = ⊥
+IsStopOf number nothing due TooManyLines = ⊥
 
 -- so many lines of the input were answered by this text; so the session stands, and the rest is left
 pub data Serves (input : List ℕ) : ℕ → List ℕ → Session → List ℕ → Type 0 where
@@ -151,7 +157,7 @@ pub data Serves (input : List ℕ) : ℕ → List ℕ → Session → List ℕ �
   line : {lines : ℕ} {text rest : List ℕ} {old : Session} (more : List ℕ) (new : Session) → Serves input lines text old rest → 0 < length rest →
       IsAscii (first_piece 10 rest) → Answers old (first_piece 10 rest) more new → Serves input (lines + 1) (text ++ more) new (drop_through 10 rest)
 
--- all lines were answered; what was written is known where the writer tells what it holds
+-- all lines have their replies, and nothing else was written, where the output is known
 pub record IsServed (input : List ℕ) (old new : Option (List ℕ)) : Type 0 where
   pub lines : ℕ
   pub text : List ℕ
@@ -159,28 +165,80 @@ pub record IsServed (input : List ℕ) (old new : Option (List ℕ)) : Type 0 wh
   pub serves : Serves input lines text session []
   pub writes : Appends old new text
 
--- the lines before this one were answered, and this one was not, since it spells nothing that may stand there
-pub record IsServedUpTo (input : List ℕ) (number : ℕ) (last : List ℕ) (old new : Option (List ℕ)) : Type 0 where
+abbrev pub malformed_line : ℕ → List ℕ
+malformed_line number = codes "malformed " ++ decimal number ++ codes "\n"
+
+-- the last line of a session that stops
+abbrev pub last_line : Stop → List ℕ
+last_line (Malformed number) = malformed_line number
+last_line NoPair = codes "refused 5 OutOfMemory\n"
+last_line Failed = []
+last_line OutOfMemory = []
+last_line TooManyLines = []
+
+-- a session that comes to the end of its input has none
+abbrev pub end_line : Result (Unit {0}) Stop → List ℕ
+end_line (Ok done) = []
+end_line (Err stop) = last_line stop
+
+-- before it is written
+abbrev pub no_line : Stop → List ℕ
+no_line stop = []
+
+-- why a session stops that answered so many lines, of whose input this is left
+abbrev pub IsCause : ℕ → Session → List ℕ → Stop → Type 0
+IsCause lines session rest (Malformed number) = (number ≡ lines + 1) × (0 < length rest) × MeansNothing session (first_piece 10 rest)
+IsCause lines session rest NoPair = (0 < length rest) × IsPairDue session (first_piece 10 rest)
+IsCause lines session rest Failed = Unit {0}
+IsCause lines session rest OutOfMemory = Unit {0}
+IsCause lines session rest TooManyLines = lines ≡ 2 ^ 64 - 2
+
+-- the reply to the next line begins so
+pub record BeginsReply (session : Session) (rest part : List ℕ) : Type 0 where
+  pub some : 0 < length rest
+  pub ascii : IsAscii (first_piece 10 rest)
+  pub text : List ℕ
+  pub next : Session
+  pub answers : Answers session (first_piece 10 rest) text next
+  pub left : List ℕ
+  pub whole : text ≡ part ++ left
+
+-- a last line that has a cause begins so
+pub record BeginsLast (lines : ℕ) (session : Session) (rest : List ℕ) (last : Stop → List ℕ) (part : List ℕ) : Type 0 where
+  pub stop : Stop
+  pub cause : IsCause lines session rest stop
+  pub left : List ℕ
+  pub whole : last stop ≡ part ++ left
+
+-- what is written behind the replies: the last line; if a stream failed, nothing, or a beginning of it or of the next reply
+abbrev pub IsWrittenBehind : ℕ → Session → List ℕ → (Stop → List ℕ) → List ℕ → Stop → Type 0
+IsWrittenBehind lines session rest last part Failed = (part ≡ []) ⊎ BeginsReply session rest part ⊎ BeginsLast lines session rest last part
+IsWrittenBehind lines session rest last part (Malformed number) = part ≡ last (Malformed number)
+IsWrittenBehind lines session rest last part NoPair = part ≡ last NoPair
+IsWrittenBehind lines session rest last part OutOfMemory = part ≡ last OutOfMemory
+IsWrittenBehind lines session rest last part TooManyLines = part ≡ last TooManyLines
+
+-- a session stopped: so many lines have their replies, and this was written behind them
+pub record StopsAt (input : List ℕ) (last : Stop → List ℕ) (old new : Option (List ℕ)) (stop : Stop) : Type 0 where
   pub lines : ℕ
   pub text : List ℕ
   pub session : Session
   pub rest : List ℕ
   pub serves : Serves input lines text session rest
-  pub some : 0 < length rest
-  pub nothing : MeansNothing session (first_piece 10 rest)
-  pub number_is : number ≡ lines + 1
-  pub writes : Appends old new (text ++ last)
+  pub cause : IsCause lines session rest stop
+  pub part : List ℕ
+  pub behind : IsWrittenBehind lines session rest last part stop
+  pub writes : Appends old new (text ++ part)
 
--- how a session ended before its input did
-abbrev pub StopsAt : List ℕ → Option (List ℕ) → Option (List ℕ) → Stop → Type 0
-StopsAt input old new (Malformed number) = IsServedUpTo input number [] old new
-StopsAt input old new NoPair = Unit {0}
-StopsAt input old new Failed = Unit {0}
+-- a line was malformed, and its number was written behind the replies
+abbrev pub IsMalformed : List ℕ → Option (List ℕ) → Option (List ℕ) → Type 0
+IsMalformed input old new = (number : ℕ) × StopsAt input last_line old new (Malformed number)
 
-abbrev pub malformed_line : ℕ → List ℕ
-malformed_line number = codes "malformed " ++ decimal number ++ codes "\n"
-
--- a line was malformed, and its number was written behind the answers
-pub record IsMalformed (input : List ℕ) (old new : Option (List ℕ)) : Type 0 where
-  pub number : ℕ
-  pub served : IsServedUpTo input number (malformed_line number) old new
+-- the exit status
+abbrev pub status : Result (Unit {0}) Stop → ℕ
+status (Ok done) = 0
+status (Err (Malformed number)) = 2
+status (Err NoPair) = 1
+status (Err Failed) = 1
+status (Err OutOfMemory) = 1
+status (Err TooManyLines) = 1

@@ -2,10 +2,13 @@
 //! a line each, and prints a reply to each.
 #![tactic(auto)]
 
+mod environment;
 mod session;
+mod streams;
 
+pub use environment::{Environment, StreamFailed};
 pub use quic_lines::{hex_bytes, hex_field};
-pub use session::serve;
+pub use session::{Session, Stop, answer_lines, serve};
 use std::io;
 use std::process::ExitCode;
 

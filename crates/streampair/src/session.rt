@@ -1,11 +1,15 @@
-ghost use Rattle.std.specs.Prelude.{◌≡◌, ◌≤◌, ◌++◌, IfOk, IfErr, IfSome, OnOk, None, string_bytes, codes};
-ghost use Rattle.std.specs.Io.BufRead.{strip_last};
+ghost use Rattle.std.specs.Prelude.{◌≡◌, ◌≤◌, ◌++◌, IfOk, Err, IfErr, IfSome, OnOk, OnErr, None, string_bytes, codes};
 ghost use Rattle.std.specs.List.{flat_map};
 ghost use Rattle.std.specs.Str.{IsAscii};
+ghost use Rattle.std.specs.Io.KnownBytes.{Appends};
 ghost use Rattle.quic_pair.specs.Shown.{pair_view};
 ghost use Rattle.quic_lines.specs.Grammar.{MeansConfig, MeansNoConfig, MeansNoEarly};
-ghost use Rattle.streampair.specs.Session.{answer_line, ok_line, lines_of, AnswersLine, AnswersReady, AnswersRunning, IsStep, IsMadeOf, IsSettlement, settlement_text, IsServed, IsMalformed, IsStopOf, MeansNoLine, StopsAt, StopsWith, stop_of};
+ghost use Rattle.streampair.specs.Session.{answer_line, lines_of, Answers, AnswersReady, AnswersRunning, IsStep, IsSettlement, settlement_text, IsServed, IsMalformed, IsEarlyLine, IsMadeOf, IsPairDue, IsStopOf, end_line, last_line, malformed_line, MeansNoLine, MeansNothing, no_line, status, StopsAt, stop_of, text_bytes};
+ghost use Rattle.streampair.specs.Streams.{AppendsPart};
 
+use crate::environment::{Environment, StreamFailed};
+use crate::streams::Streams;
+use itoa::Buffer;
 use quic_lines::{
     LineError, is_settle, parse_config, parse_early, parse_step, refusal_line, reply_line,
     step_line,
@@ -14,39 +18,42 @@ use quic_pair::Pair;
 use quic_steps::{Config, End, PairError, Reply, Step};
 use quic_wire::OutOfMemory;
 use std::alloc::Global;
-use std::io;
-use std::io::{BufRead, BufReader, Read, Write};
+use std::io::{BufReader, Read, Write};
 
-// How a session ends before its input does.
+/// Why a session stops before the end of its input.
 #[derive(Clone, Copy, Debug)]
-enum Stop {
-    // A line is no step, and which, from 1 on.
+pub enum Stop {
+    /// The line of this number, from 1 on, is malformed.
     Malformed(u64),
-    // There was no memory for the pair.
+    /// There was no memory for the pair.
     NoPair,
-    // A read or a write failed, or there was no memory outside a step.
+    /// A read, a write or a flush failed.
     Failed,
+    /// There was no memory to read a line or to spell its reply, outside of a step.
+    OutOfMemory,
+    /// The input has 2^64 - 1 lines or more.
+    TooManyLines,
 }
 
-impl From<io::Error> for Stop {
+impl From<StreamFailed> for Stop {
     ghost use Rattle.std.specs.Prelude.{◌≡◌};
     ghost use Rattle.streampair.specs.declared.session.Stop.TheVariants.{Failed};
 
     ghost from_gives = { λ _ stop. stop ≡ Failed };
 
-    fn from(_error: io::Error) -> Self {
+    fn from(_error: StreamFailed) -> Self {
         Stop::Failed
     }
 }
 
 impl From<OutOfMemory> for Stop {
     ghost use Rattle.std.specs.Prelude.{◌≡◌};
-    ghost use Rattle.streampair.specs.declared.session.Stop.TheVariants.{Failed};
+    ghost use Rattle.streampair.specs.declared.session.Stop.TheVariants.{OutOfMemory};
 
-    ghost from_gives = { λ _ stop. stop ≡ Failed };
+    ghost from_gives = { λ _ stop. stop ≡ OutOfMemory };
 
     fn from(_error: OutOfMemory) -> Self {
-        Stop::Failed
+        Stop::OutOfMemory
     }
 }
 
@@ -56,20 +63,44 @@ impl Stop {
     {
         match error {
             LineError::Malformed => Stop::Malformed(number),
-            LineError::OutOfMemory => Stop::Failed,
+            LineError::OutOfMemory => Stop::OutOfMemory,
         }
     }
 }
 
-// Where the session stands.
+/// What a session has read so far.
 #[derive(Drop)]
-enum Session {
+pub enum Session {
+    /// Nothing.
     Start,
-    // The config of end A was given.
+    /// The config of endpoint A.
     Configured(Config),
-    // The pair is made. It is made anew where the third line says what the client remembers.
-    Ready { a: Config, b: Config, pair: Pair },
-    Running(Pair),
+    /// Both configs. The pair is made anew if the third line has limits that the client remembers.
+    Joined {
+        a: Config,
+        b: Config,
+        pair: Pair,
+        /// Whether the next line is the third.
+        is_third: bool,
+    },
+}
+
+// The reply to a line, with its line feeds.
+#[derive(Drop)]
+enum Text {
+    Ok,
+    Lines(String),
+}
+
+impl Text {
+    fn as_bytes(&self) -> &[u8]
+        ensures { result.now ≡ text_bytes self.now }
+    {
+        match self {
+            Text::Ok => b"ok\n",
+            Text::Lines(lines) => lines.as_str().as_bytes(),
+        }
+    }
 }
 
 // Takes a step. Answers its reply, as a line with its line feed.
@@ -150,7 +181,7 @@ fn settle_lines(alloc: Global, pair: &mut Pair) -> Result<String, OutOfMemory>
 fn answer_running(alloc: Global, number: u64, pair: &mut Pair, line: &[u8]) -> Result<String, Stop>
     ensures ascii { OnOk result (IsAscii line.now) }
     ensures answers { IfOk result (λ text. AnswersRunning (pair_view pair.old) line.now (string_bytes text) (pair_view pair.new)) }
-    ensures stops { IfErr result (IsStopOf number (MeansNoLine line.now)) }
+    ensures stops { IfErr result (IsStopOf number (MeansNoLine line.now) ⊥) }
 {
     if is_settle(line) {
         return Ok(settle_lines(alloc, pair)?);
@@ -173,7 +204,7 @@ fn with_line_feed(line: String) -> Result<String, OutOfMemory>
 fn config_of(alloc: Global, number: u64, line: &[u8], who: End) -> Result<Config, Stop>
     ensures ascii { OnOk result (IsAscii line.now) }
     ensures means { IfOk result (MeansConfig line.now who) }
-    ensures stops { IfErr result (IsStopOf number (MeansNoConfig line.now who)) }
+    ensures stops { IfErr result (IsStopOf number (MeansNoConfig line.now who) ⊥) }
 {
     match parse_config(alloc, line, who) {
         Ok(config) => Ok(config),
@@ -181,144 +212,195 @@ fn config_of(alloc: Global, number: u64, line: &[u8], who: End) -> Result<Config
     }
 }
 
-// The session behind both configs.
-fn ready_of(alloc: Global, a: &Config, b: &Config) -> Result<Session, OutOfMemory>
-    ensures { IfOk result (IsMadeOf a.now b.now) }
+// The session after the second line.
+fn ready_of<E: Environment>(environment: &E, a: &Config, b: &Config) -> Result<Session, OutOfMemory>
+    ensures made { IfOk result (IsMadeOf a.now b.now) }
+    ensures no_pair { OnErr result (E.has_no_pair environment.now) }
 {
-    let pair = Pair::new(alloc, *a, *b)?;
-    Ok(Session::Ready { a: *a, b: *b, pair })
+    let pair = environment.make_pair(*a, *b, None)?;
+    Ok(Session::Joined {
+        a: *a,
+        b: *b,
+        pair,
+        is_third: true,
+    })
 }
 
-fn ok_line(alloc: Global) -> Result<String, OutOfMemory>
-    ensures { IfOk result (λ line. string_bytes line ≡ ok_line) }
-{
-    Ok(String::from_str(alloc, "ok\n")?)
-}
-
-// Answers the third line: the pair is made anew where the client remembers limits.
-fn answer_ready(
-    alloc: Global,
+// Takes the third line. The pair is made anew if the client remembers limits.
+fn answer_ready<E: Environment>(
+    environment: &E,
     number: u64,
-    a: Config,
-    b: Config,
-    pair: Pair,
+    a: &Config,
+    b: &Config,
+    pair: &mut Pair,
     line: &[u8],
-) -> Result<(String, Pair), Stop>
+) -> Result<Text, Stop>
     ensures ascii { OnOk result (IsAscii line.now) }
-    ensures answers { IfOk result (λ it. AnswersReady a b (pair_view pair) line.now (string_bytes it.0) (pair_view it.1)) }
-    ensures stops { IfErr result (IsStopOf number (MeansNoLine line.now × MeansNoEarly line.now)) }
+    ensures answers { IfOk result (λ text. AnswersReady a.now b.now (pair_view pair.old) line.now (text_bytes text) (pair_view pair.new)) }
+    ensures stops { IfErr result (IsStopOf number (MeansNoLine line.now × MeansNoEarly line.now) (IsEarlyLine line.now)) }
+    ensures no_pair { IfErr result (λ stop. stop ≡ Stop.NoPair → E.has_no_pair environment.now) }
 {
-    match parse_early(alloc, line)? {
-        Some(remembered) => {
-            let Ok(pair) = Pair::new_early(alloc, a, b, remembered) else {
-                return Err(Stop::NoPair);
-            };
-            Ok((ok_line(alloc)?, pair))
-        }
-        None => {
-            let mut pair = pair;
-            let text = answer_running(alloc, number, &mut pair, line)?;
-            Ok((text, pair))
-        }
-    }
+    let Some(remembered) = parse_early(environment.alloc(), line)? else {
+        let lines = answer_running(environment.alloc(), number, pair, line)?;
+        return Ok(Text::Lines(lines));
+    };
+    let Ok(early) = environment.make_pair(*a, *b, Some(remembered)) else {
+        return Err(Stop::NoPair);
+    };
+    *pair = early;
+    Ok(Text::Ok)
 }
 
 impl Session {
-    // Answers the line of this number.
-    fn answer<W: Write>(
-        self,
-        alloc: Global,
+    // Takes the line of this number, and returns the reply to it. If it fails, the session has stopped.
+    fn answer<E: Environment>(
+        &mut self,
+        environment: &E,
         number: u64,
         line: &[u8],
-        output: &mut W,
-    ) -> Result<Session, Stop>
-        ensures ok { IfOk result (AnswersLine self line.now (W.contents output.old) (W.contents output.new)) }
-        ensures stops { IfErr result (StopsWith number self line.now (W.contents output.old) (W.contents output.new)) }
+    ) -> Result<Text, Stop>
+        ensures ascii { OnOk result (IsAscii line.now) }
+        ensures answers { IfOk result (λ text. Answers self.old line.now (text_bytes text) self.new) }
+        ensures stops { IfErr result (IsStopOf number (MeansNothing self.old line.now) (IsPairDue self.old line.now)) }
+        ensures no_pair { IfErr result (λ stop. stop ≡ Stop.NoPair → E.has_no_pair environment.now) }
     {
         match self {
             Session::Start => {
-                let config = config_of(alloc, number, line, End::A)?;
-                output.write_all(b"ok\n")?;
-                Ok(Session::Configured(config))
+                let config = config_of(environment.alloc(), number, line, End::A)?;
+                *self = Session::Configured(config);
+                Ok(Text::Ok)
             }
             Session::Configured(a) => {
-                let b = config_of(alloc, number, line, End::B)?;
-                let Ok(session) = ready_of(alloc, &a, &b) else {
+                let b = config_of(environment.alloc(), number, line, End::B)?;
+                let Ok(session) = ready_of(environment, a, &b) else {
                     return Err(Stop::NoPair);
                 };
-                output.write_all(b"ok\n")?;
-                Ok(session)
+                *self = session;
+                Ok(Text::Ok)
             }
-            Session::Ready { a, b, pair } => {
-                let (text, pair) = answer_ready(alloc, number, a, b, pair, line)?;
-                output.write_all(text.as_str().as_bytes())?;
-                Ok(Session::Running(pair))
-            }
-            Session::Running(mut pair) => {
-                let text = answer_running(alloc, number, &mut pair, line)?;
-                output.write_all(text.as_str().as_bytes())?;
-                Ok(Session::Running(pair))
+            Session::Joined {
+                a,
+                b,
+                pair,
+                is_third,
+            } => {
+                if *is_third {
+                    let text = answer_ready(environment, number, a, b, pair, line)?;
+                    *is_third = false;
+                    return Ok(text);
+                }
+                let lines = answer_running(environment.alloc(), number, pair, line)?;
+                Ok(Text::Lines(lines))
             }
         }
     }
 }
 
-// Answers all lines.
-fn run<R: Read + Drop, W: Write>(alloc: Global, input: R, output: &mut W) -> Result<(), Stop>
-    ensures ok { OnOk result (IfSome (R.remaining input) (λ bytes. IsServed bytes (W.contents output.old) (W.contents output.new))) }
-    ensures stops { IfErr result (λ stop. IfSome (R.remaining input) (λ bytes. StopsAt bytes (W.contents output.old) (W.contents output.new) stop)) }
+// Answers all lines, with a session at its start.
+fn run<E: Environment>(environment: &mut E, session: &mut Session) -> Result<(), Stop>
+    requires { session.old ≡ Session.Start }
+    ensures ok { OnOk result (IfSome (E.unread environment.old) (λ input. IsServed input (E.written environment.old) (E.written environment.new))) }
+    ensures stops { IfErr result (λ stop. IfSome (E.unread environment.old) (λ input. StopsAt input no_line (E.written environment.old) (E.written environment.new) stop)) }
+    ensures failed { IfErr result (λ stop. stop ≡ Stop.Failed → E.has_failed environment.new) }
+    ensures no_pair { IfErr result (λ stop. stop ≡ Stop.NoPair → E.has_no_pair environment.new) }
 {
-    let mut reader = BufReader::new(alloc, input)?;
-    let mut session = Session::Start;
-    let mut line = Vec::new(alloc);
+    let mut line = Vec::new(environment.alloc());
     for number in 1..u64::MAX {
-        line.clear();
-        if reader.read_until(b'\n', &mut line)? == 0 {
+        if !environment.read_line(&mut line)? {
             return Ok(());
         }
-        drop_line_feed(&mut line);
-        match session.answer(alloc, number, line.as_slice(), output) {
-            Ok(next) => session = next,
+        match session.answer(environment, number, line.as_slice()) {
+            Ok(text) => environment.write(text.as_bytes())?,
             Err(stop) => return Err(stop),
         }
     }
-    Err(Stop::Failed)
+    Err(Stop::TooManyLines)
 }
 
-// Drops the line feed at the end of a line, which the last line may lack.
-fn drop_line_feed(line: &mut Vec<u8>)
-    ensures { line.new.items ≡ strip_last 10 line.old.items }
+// Answers all lines.
+fn answer_all<E: Environment>(environment: &mut E) -> Result<(), Stop>
+    ensures ok { OnOk result (IfSome (E.unread environment.old) (λ input. IsServed input (E.written environment.old) (E.written environment.new))) }
+    ensures stops { IfErr result (λ stop. IfSome (E.unread environment.old) (λ input. StopsAt input no_line (E.written environment.old) (E.written environment.new) stop)) }
+    ensures failed { IfErr result (λ stop. stop ≡ Stop.Failed → E.has_failed environment.new) }
+    ensures no_pair { IfErr result (λ stop. stop ≡ Stop.NoPair → E.has_no_pair environment.new) }
 {
-    if line.last() == Some(&b'\n') {
-        line.pop();
+    let mut session = Session::Start;
+    run(environment, &mut session)
+}
+
+// Writes that the line of this number is malformed, without memory.
+fn write_malformed<E: Environment>(environment: &mut E, number: u64) -> Result<(), StreamFailed>
+    ensures whole { OnOk result (Appends (E.written environment.old) (E.written environment.new) (malformed_line number)) }
+    ensures part { OnErr result (AppendsPart (E.written environment.old) (E.written environment.new) (malformed_line number)) }
+    ensures failed { OnErr result (E.has_failed environment.new) }
+    ensures still_failed { E.has_failed environment.old → E.has_failed environment.new }
+    ensures still_no_pair { E.has_no_pair environment.old → E.has_no_pair environment.new }
+{
+    let mut digits = Buffer::new();
+    environment.write(b"malformed ")?;
+    environment.write(digits.format(number).as_bytes())?;
+    environment.write(b"\n")
+}
+
+// Writes the last line of a session that a malformed line or want of memory for a pair has ended.
+fn write_last_line<E: Environment>(
+    environment: &mut E,
+    ended: Result<(), Stop>,
+) -> Result<(), StreamFailed>
+    ensures whole { OnOk result (Appends (E.written environment.old) (E.written environment.new) (end_line ended)) }
+    ensures part { OnErr result (AppendsPart (E.written environment.old) (E.written environment.new) (end_line ended)) }
+    ensures failed { OnErr result (E.has_failed environment.new) }
+    ensures still_failed { E.has_failed environment.old → E.has_failed environment.new }
+    ensures still_no_pair { E.has_no_pair environment.old → E.has_no_pair environment.new }
+{
+    match ended {
+        Err(Stop::Malformed(number)) => write_malformed(environment, number),
+        Err(Stop::NoPair) => environment.write(b"refused 5 OutOfMemory\n"),
+        _ => Ok(()),
     }
 }
 
-// Answers all lines, says how it ended, and gives the status.
-fn serve_into<R: Read + Drop, W: Write>(alloc: Global, input: R, output: &mut W) -> u8
-    ensures status { result ≤ 2 }
-    ensures served { result ≡ 0 → IfSome (R.remaining input) (λ bytes. IsServed bytes (W.contents output.old) (W.contents output.new)) }
-    ensures malformed { result ≡ 2 → IfSome (R.remaining input) (λ bytes. IsMalformed bytes (W.contents output.old) (W.contents output.new)) }
+/// Answers each line of the input, writes a last line if a line is malformed or there is no memory for a pair, and flushes.
+///
+/// Fails with [`Stop::Failed`] only if a read, a write or a flush failed, and with [`Stop::NoPair`] only if memory for a pair that was
+/// due was refused. The lines before have their replies; if a stream failed, a beginning of one reply more may have been written.
+pub fn answer_lines<E: Environment>(environment: &mut E) -> Result<(), Stop>
+    ensures served { OnOk result (IfSome (E.unread environment.old) (λ input. IsServed input (E.written environment.old) (E.written environment.new))) }
+    ensures stops { IfErr result (λ stop. IfSome (E.unread environment.old) (λ input. StopsAt input last_line (E.written environment.old) (E.written environment.new) stop)) }
+    ensures flushed { (result ≡ Err Stop.Failed → ⊥) → E.is_flushed environment.new }
+    ensures failed { IfErr result (λ stop. stop ≡ Stop.Failed → E.has_failed environment.new) }
+    ensures no_pair { IfErr result (λ stop. stop ≡ Stop.NoPair → E.has_no_pair environment.new) }
 {
-    let (status, ended) = match run(alloc, input, output) {
-        Ok(()) => (0, output.flush()),
-        Err(Stop::Malformed(number)) => (2, write!(output, "malformed {number}\n")),
-        Err(Stop::NoPair) => (1, output.write_all(b"refused 5 OutOfMemory\n")),
-        Err(Stop::Failed) => (1, Ok(())),
-    };
+    let ended = answer_all(environment);
+    write_last_line(environment, ended)?;
+    environment.flush()?;
+    ended
+}
+
+fn status_of(ended: Result<(), Stop>) -> u8
+    ensures { result ≡ status ended }
+{
     match ended {
-        Ok(()) => status,
+        Ok(()) => 0,
+        Err(Stop::Malformed(_)) => 2,
         Err(_) => 1,
     }
 }
 
-/// Answers each line of the input by a line of the output, and then says how it ended: 0 where all
-/// lines were answered, 2 at a line that is malformed, 1 where a read or a write failed or memory ran
-/// out outside a step.
-pub fn serve<R: Read + Drop, W: Write + Drop>(alloc: Global, input: R, mut output: W) -> u8
+/// Answers each line of the input by a line of the output, as [`answer_lines`]. Returns the exit status: 0 at the end of input, 2 at a
+/// malformed line, 1 if a read or a write failed or memory ran out outside of a step.
+pub fn serve<R: Read + Drop, W: Write + Drop>(alloc: Global, input: R, output: W) -> u8
     ensures status { result ≤ 2 }
     ensures served { result ≡ 0 → IfSome (R.remaining input) (λ bytes. IsServed bytes None None) }
     ensures malformed { result ≡ 2 → IfSome (R.remaining input) (λ bytes. IsMalformed bytes None None) }
 {
-    serve_into(alloc, input, &mut output)
+    let Ok(reader) = BufReader::new(alloc, input) else {
+        return 1;
+    };
+    let mut streams = Streams {
+        alloc,
+        input: reader,
+        output,
+    };
+    status_of(answer_lines(&mut streams))
 }

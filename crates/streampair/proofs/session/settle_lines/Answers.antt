@@ -13,8 +13,6 @@ returns c = IfOk-weaker c.settled_text.result _ _ (λ text e. record {
   cut_off = c.settle-taken.ensures.cut_off;
   undecided = c.settle-taken.ensures.undecided;
   only = c.settle-taken.ensures.only;
-  arrived = c.settle-taken.ensures.arrived;
-  read = c.settle-taken.ensures.read;
-  told = c.settle-taken.ensures.told;
+  completes = c.settle-taken.ensures.completes;
   text_is = e ∙ ap (λ (xs : History). settlement_text xs c.settle-taken.result.1) c.as_slice.ensures.value;
 }) c.settled_text.ensures
