@@ -34,6 +34,19 @@
  * out-parameters. The library keeps no pointer of the host after a call, and
  * shows its own memory by qs_emit_lent, qs_stream_read_lent and qs_buffer.
  *
+ * @par Structs that grow
+ * qs_config, qs_peer_limits, qs_info, qs_payload and qs_due are lists of 64-bit
+ * numbers, and a later version may add numbers at their end. The calls that
+ * read or fill them are inline functions of this header, which tell the library
+ * how many numbers the host's struct has, so a host and a library of different
+ * versions work together. A number that the host does not have counts as 0, and
+ * 0 means "as before". A number that the library does not know is set to 0 in a
+ * struct that it fills, and must be 0 in one that it reads: else the call
+ * returns QS_ERR_ARGUMENT. So initialise a qs_config and a qs_peer_limits by
+ * the names of their fields, or with zeros first. A binding of another language
+ * calls the functions whose names end in _words; count is how many numbers its
+ * struct has. All other structs stay as they are.
+ *
  * @par Memory
  * The library allocates with malloc and realloc and releases with free. If that
  * fails, the call returns QS_ERR_NOMEM. The library never ends the process.
@@ -152,7 +165,7 @@ enum { QS_BIDI = 0, QS_UNI = 1 };
 #define QS_WINDOW_FOR(packet, percent)                                         \
   (UINT64_C(1024) * (uint64_t)(packet)*100 / (uint64_t)(percent))
 
-/** The configuration of a session. Set size to sizeof(qs_config).
+/** The configuration of a session.
  *
  * The host advertises the same numbers in its transport parameters (RFC 9000
  * section 18.2, RFC 9221 section 3): max_remote_uni as initial_max_streams_uni,
@@ -168,8 +181,7 @@ enum { QS_BIDI = 0, QS_UNI = 1 };
  *
  * Keep stream_window at or below QS_WINDOW_FOR(packet, percent). */
 typedef struct qs_config {
-  uint32_t size;            /**< sizeof(qs_config), exactly */
-  uint32_t side;            /**< QS_CLIENT or QS_SERVER */
+  uint64_t side;            /**< QS_CLIENT or QS_SERVER */
   uint64_t max_remote_uni;  /**< streams that the peer may open at first, one
                                  way; at most 2^60, all allocated at once */
   uint64_t max_remote_bidi; /**< the same, both ways */
@@ -185,15 +197,20 @@ typedef struct qs_config {
                                with 32 more than its length; any number */
 } qs_config;
 
+/** What qs_conn_open calls. */
+QS_API int32_t qs_conn_open_words(qs_conn *conn, const uint64_t *words,
+                                  size_t count);
+
 /** Opens a session in a closed handle.
  * @param conn a closed handle; left unchanged by an error
  * @param config read; not needed after the call
  * @retval QS_OK the handle is open
  * @retval QS_ERR_IN_USE the handle was open already
- * @retval QS_ERR_ARGUMENT config->size is not sizeof(qs_config), or a number is
- *         above its bound
+ * @retval QS_ERR_ARGUMENT a number is above its bound, or unknown and not 0
  * @retval QS_ERR_NOMEM out of memory */
-QS_API int32_t qs_conn_open(qs_conn *conn, const qs_config *config);
+static inline int32_t qs_conn_open(qs_conn *conn, const qs_config *config) {
+  return qs_conn_open_words(conn, (const uint64_t *)config, sizeof *config / 8);
+}
 
 /** Frees the session with all its memory, and closes the handle. A closed
  * handle stays closed. */
@@ -210,7 +227,9 @@ QS_API void qs_conn_free(qs_conn *conn);
 QS_API int32_t qs_conn_close(qs_conn *conn);
 
 /** The limits in the peer's transport parameters (RFC 9000 section 18.2), by
- * their names there, each below 2^62. An absent parameter is 0. */
+ * their names there, each below 2^62, and a limit of datagrams, which is any
+ * number. An absent parameter is 0; max_datagram is QS_NONE if the peer's
+ * max_datagram_frame_size is absent or 0 (RFC 9221 section 3). */
 typedef struct qs_peer_limits {
   /* bytes of all streams; streams that may be opened */
   uint64_t initial_max_data;
@@ -221,8 +240,12 @@ typedef struct qs_peer_limits {
   uint64_t initial_max_stream_data_bidi_local;
   uint64_t initial_max_stream_data_bidi_remote;
   uint64_t max_datagram; /**< length of the longest datagram that the path and
-                              the peer accept, any number; QS_NONE: none */
+                              the peer accept; QS_NONE: none */
 } qs_peer_limits;
+
+/** What qs_set_peer_limits calls. */
+QS_API int32_t qs_set_peer_limits_words(qs_conn *conn, const uint64_t *words,
+                                        size_t count);
 
 /** Sets the peer's limits. Before, no stream can be opened and nothing can be
  * written. For 0-RTT, call it first with the remembered limits. Each open
@@ -231,9 +254,14 @@ typedef struct qs_peer_limits {
  * @param limits read; not needed after the call
  * @retval QS_OK the limits are set
  * @retval QS_ERR_ARGUMENT a stream limit is above 2^60, or another is 2^62 or
- *         more: close the connection with TRANSPORT_PARAMETER_ERROR
+ *         more: close the connection with TRANSPORT_PARAMETER_ERROR; or a
+ *         number is unknown and not 0
  * @retval QS_ERR_NOMEM out of memory; never if no stream was opened here */
-QS_API int32_t qs_set_peer_limits(qs_conn *conn, const qs_peer_limits *limits);
+static inline int32_t qs_set_peer_limits(qs_conn *conn,
+                                         const qs_peer_limits *limits) {
+  return qs_set_peer_limits_words(conn, (const uint64_t *)limits,
+                                  sizeof *limits / 8);
+}
 
 /** The server rejected the 0-RTT data of a client (RFC 9001 section 4.6.2).
  * Discards the client's streams with all sent and pending data, and all tokens
@@ -408,10 +436,21 @@ static inline const uint8_t *qs_slice_data(const qs_slice *slice) {
 
 /** Reads the next bytes of a stream in order as qs_stream_read_many does, but
  * copies none: slices show where they are in memory of the session, one for
- * each frame. They are valid until the next call on the handle. slices has room
- * for max of them, at most 64 are written, and *count says how many. Where
- * qs_stream_read_many names cap, it is max here.
- * @copydetails qs_stream_read_many */
+ * each frame. They are valid until the next call on the handle.
+ * @param[out] slices room for max of them; the first *count are written, at
+ *             most 64
+ * @param[out] count slices written, may be 0; 0 with QS_ERR_RESET and
+ *             QS_ERR_NOMEM; not written with the errors after these
+ * @param[out] offset of the first byte, written only if *count is above 0
+ * @param[out] app_code the peer's error code, with QS_ERR_RESET only
+ * @retval QS_OK more may be available: call again
+ * @retval QS_DONE nothing more is available now; QS_EVENT_READABLE follows
+ * @retval QS_END nothing more follows, and the receive side is closed
+ * @retval QS_ERR_RESET the peer reset the stream; the receive side is closed
+ * @retval QS_ERR_NOMEM out of memory; nothing was read
+ * @retval QS_ERR_TOO_SMALL max is 0
+ * @retval QS_ERR_NO_STREAM the receive side is closed or never existed
+ * @retval QS_ERR_ORDER the stream was read unordered before */
 QS_API int32_t qs_stream_read_lent(qs_conn *conn, uint64_t id, qs_slice *slices,
                                    size_t max, size_t *count, uint64_t *offset,
                                    uint64_t *app_code);
@@ -467,7 +506,9 @@ QS_API int32_t qs_poll(qs_conn *conn, qs_event *event);
 
 /** The state of a session. */
 typedef struct qs_info {
-  uint64_t max_concurrent_bidi, max_concurrent_uni; /**< as they were set */
+  uint64_t max_concurrent_bidi, max_concurrent_uni; /**< streams that the peer
+                     may use at a time: as set, and after a lower number was
+                     set, more until streams end */
   uint64_t max_remote_bidi, max_remote_uni;   /**< the peer may open the streams
                                                    of a lower index */
   uint64_t next_remote_bidi, next_remote_uni; /**< index of the peer's next */
@@ -475,16 +516,22 @@ typedef struct qs_info {
   uint64_t local_max_data; /**< bytes that the peer may send in all */
   uint64_t data_received;  /**< bytes that it sent */
   uint64_t write_limit;    /**< bytes that may be written on all streams */
-  uint64_t send_streams;   /**< streams whose send side is open */
+  uint64_t send_streams;   /**< streams, opened here or accepted, whose send
+                                side is open */
   uint64_t payloads;       /**< payloads not reported yet */
   uint64_t can_send_stream_data; /**< 1: stream data is pending */
   uint64_t has_pending;          /**< 1: control frames are pending */
 } qs_info;
 
+/** What qs_get_info calls. */
+QS_API int32_t qs_get_info_words(qs_conn *conn, uint64_t *words, size_t count);
+
 /** Reads the state of the session.
  * @param[out] info written with QS_OK only
  * @retval QS_OK *info is set */
-QS_API int32_t qs_get_info(qs_conn *conn, qs_info *info);
+static inline int32_t qs_get_info(qs_conn *conn, qs_info *info) {
+  return qs_get_info_words(conn, (uint64_t *)info, sizeof *info / 8);
+}
 
 /* ---- buffers ------------------------------------------------------------- */
 /** Memory for one payload, for a host that copies none: qs_emit_buffer writes
@@ -568,10 +615,20 @@ QS_API int32_t qs_receive(qs_conn *conn, const uint8_t *payload, size_t len,
  * Call qs_buffer_reserve before the next packet. Otherwise the data is copied,
  * and the buffer stays as it is.
  *
- * A closed buffer is QS_ERR_CLOSED, a len above its length QS_ERR_ARGUMENT. If
- * a payload was not copied, *next is 0 after an error, and after QS_ERR_NOMEM
- * the buffer may have lost the payload: treat the packet as not received.
- * @copydetails qs_receive */
+ * A closed buffer is QS_ERR_CLOSED. If a payload was not copied, *next is 0
+ * after an error, and after QS_ERR_NOMEM the buffer may have lost the payload:
+ * treat the packet as not received.
+ * @param buffer an open buffer
+ * @param len length of the payload
+ * @param[in,out] next as with qs_receive
+ * @param[out] error written with QS_ERR_PROTOCOL and QS_ERR_MALFORMED only
+ * @retval QS_OK everything was processed; *next is len
+ * @retval QS_OTHER_FRAME the host processes the frame at *next
+ * @retval QS_ERR_NOMEM the frames before *next were processed
+ * @retval QS_ERR_PROTOCOL close the connection with *error, as with qs_receive
+ * @retval QS_ERR_MALFORMED close the connection with *error, as with qs_receive
+ * @retval QS_ERR_ARGUMENT len is above the buffer's length, or *next above len
+ */
 QS_API int32_t qs_receive_buffer(qs_conn *conn, qs_buffer *buffer, size_t len,
                                  size_t *next, qs_error *error);
 
@@ -586,32 +643,49 @@ QS_API int32_t qs_receive_buffer(qs_conn *conn, qs_buffer *buffer, size_t len,
  *        if payload_len is less.
  * @param[out] error written with QS_ERR_PROTOCOL only
  * @retval QS_OK the frame was processed
- * @retval QS_ERR_PROTOCOL close the connection with *error
+ * @retval QS_ERR_PROTOCOL close the connection with *error. If the reassembly
+ *         limit is exceeded (INTERNAL_ERROR), the data stays buffered.
  * @retval QS_ERR_NOMEM out of memory; the frame was not processed */
 QS_API int32_t qs_on_stream(qs_conn *conn, uint64_t id, uint64_t offset,
                             const uint8_t *data, size_t len, uint32_t fin,
                             size_t payload_len, qs_error *error);
 
-/** @name Single frames
- * Each processes one frame (RFC 9000 section 19, RFC 9221 section 4). A
- * STOP_SENDING frame is rejected where qs_receive rejects it.
+/** Processes a RESET_STREAM frame (RFC 9000 section 19.4).
  * @param[out] error written with QS_ERR_PROTOCOL only
  * @retval QS_OK the frame was processed
  * @retval QS_ERR_PROTOCOL close the connection with *error
- * @retval QS_ERR_NOMEM out of memory; the frame was not processed
- * @{ */
+ * @retval QS_ERR_NOMEM out of memory; the frame was not processed */
 QS_API int32_t qs_on_reset_stream(qs_conn *conn, uint64_t id, uint64_t app_code,
                                   uint64_t final_size, qs_error *error);
+
+/** Processes a STOP_SENDING frame (RFC 9000 section 19.5), and rejects it where
+ * qs_receive does.
+ * @copydetails qs_on_reset_stream */
 QS_API int32_t qs_on_stop_sending(qs_conn *conn, uint64_t id, uint64_t app_code,
                                   qs_error *error);
+
+/** Processes a MAX_DATA frame (RFC 9000 section 19.9).
+ * @copydetails qs_on_reset_stream */
 QS_API int32_t qs_on_max_data(qs_conn *conn, uint64_t limit, qs_error *error);
+
+/** Processes a MAX_STREAM_DATA frame (RFC 9000 section 19.10).
+ * @copydetails qs_on_reset_stream */
 QS_API int32_t qs_on_max_stream_data(qs_conn *conn, uint64_t id, uint64_t limit,
                                      qs_error *error);
+
+/** Processes a MAX_STREAMS frame (RFC 9000 section 19.11).
+ * @param dir QS_BIDI or QS_UNI
+ * @param count how many streams may be opened; above 2^60 the result is
+ *        QS_ERR_PROTOCOL with FRAME_ENCODING_ERROR
+ * @copydetails qs_on_reset_stream */
 QS_API int32_t qs_on_max_streams(qs_conn *conn, uint32_t dir, uint64_t count,
                                  qs_error *error);
+
+/** Processes a DATAGRAM frame (RFC 9221 section 4).
+ * @param data len bytes; may be NULL if len is 0
+ * @copydetails qs_on_reset_stream */
 QS_API int32_t qs_on_datagram(qs_conn *conn, const uint8_t *data, size_t len,
                               qs_error *error);
-/** @} */
 
 /* ---- sending ------------------------------------------------------------- */
 /** The parts of a payload, which are written in this order. */
@@ -637,6 +711,11 @@ typedef struct qs_payload {
                        the last frame may be a STREAM frame without a length */
 } qs_payload;
 
+/** What qs_emit calls. */
+QS_API int32_t qs_emit_words(qs_conn *conn, uint32_t parts, uint32_t fair,
+                             uint8_t *data, size_t cap, uint64_t *words,
+                             size_t count);
+
 /** Writes pending frames, at most cap bytes, of the named parts. A host that
  * lays out its packets itself calls it for single parts: each call makes a
  * payload of its own, and a packet may have several.
@@ -651,24 +730,51 @@ typedef struct qs_payload {
  *         frames, these are the payload.
  * @retval QS_DONE no pending frame of these parts fits into cap bytes
  * @retval QS_ERR_NOMEM out of memory; nothing was written */
-QS_API int32_t qs_emit(qs_conn *conn, uint32_t parts, uint32_t fair,
-                       uint8_t *data, size_t cap, qs_payload *payload);
+static inline int32_t qs_emit(qs_conn *conn, uint32_t parts, uint32_t fair,
+                              uint8_t *data, size_t cap, qs_payload *payload) {
+  return qs_emit_words(conn, parts, fair, data, cap, (uint64_t *)payload,
+                       sizeof *payload / 8);
+}
+
+/** What qs_emit_lent calls. */
+QS_API int32_t qs_emit_lent_words(qs_conn *conn, uint32_t parts, uint32_t fair,
+                                  size_t cap, const uint8_t **data,
+                                  uint64_t *words, size_t count);
 
 /** Writes pending frames as qs_emit does, into memory of the session, where
  * they are valid until the next call on the handle. *data is set to where they
  * begin, with QS_OK only.
  * @copydetails qs_emit */
-QS_API int32_t qs_emit_lent(qs_conn *conn, uint32_t parts, uint32_t fair,
-                            size_t cap, const uint8_t **data,
-                            qs_payload *payload);
+static inline int32_t qs_emit_lent(qs_conn *conn, uint32_t parts, uint32_t fair,
+                                   size_t cap, const uint8_t **data,
+                                   qs_payload *payload) {
+  return qs_emit_lent_words(conn, parts, fair, cap, data, (uint64_t *)payload,
+                            sizeof *payload / 8);
+}
+
+/** What qs_emit_buffer calls. */
+QS_API int32_t qs_emit_buffer_words(qs_conn *conn, uint32_t parts,
+                                    uint32_t fair, size_t cap,
+                                    qs_buffer *buffer, uint64_t *words,
+                                    size_t count);
 
 /** Writes pending frames as qs_emit does, into an open buffer; a closed one is
- * QS_ERR_CLOSED. With QS_OK the buffer has the payload alone, and its len is
- * payload->len; else its bytes stay.
- * @copydetails qs_emit */
-QS_API int32_t qs_emit_buffer(qs_conn *conn, uint32_t parts, uint32_t fair,
-                              size_t cap, qs_buffer *buffer,
-                              qs_payload *payload);
+ * QS_ERR_CLOSED.
+ * @param parts as with qs_emit
+ * @param fair as with qs_emit
+ * @param cap at least QS_MIN_ROOM, or pending frames may not fit
+ * @param buffer with QS_OK it has the payload alone, and its len is
+ *        payload->len; else its bytes stay
+ * @param[out] payload written with QS_OK only
+ * @retval QS_OK *payload is set
+ * @retval QS_DONE no pending frame of these parts fits into cap bytes
+ * @retval QS_ERR_NOMEM out of memory; nothing was written */
+static inline int32_t qs_emit_buffer(qs_conn *conn, uint32_t parts,
+                                     uint32_t fair, size_t cap,
+                                     qs_buffer *buffer, qs_payload *payload) {
+  return qs_emit_buffer_words(conn, parts, fair, cap, buffer,
+                              (uint64_t *)payload, sizeof *payload / 8);
+}
 
 /** What is pending, each 0 or 1. */
 typedef struct qs_due {
@@ -677,10 +783,15 @@ typedef struct qs_due {
   uint64_t streams;   /**< stream data */
 } qs_due;
 
+/** What qs_get_due calls. */
+QS_API int32_t qs_get_due_words(qs_conn *conn, uint64_t *words, size_t count);
+
 /** Asks what is pending.
  * @param[out] due written with QS_OK only
  * @retval QS_OK *due is set */
-QS_API int32_t qs_get_due(qs_conn *conn, qs_due *due);
+static inline int32_t qs_get_due(qs_conn *conn, qs_due *due) {
+  return qs_get_due_words(conn, (uint64_t *)due, sizeof *due / 8);
+}
 
 /** Reports that the packet of a payload was acknowledged (RFC 9000 section
  * 13.3). Report each payload once, as acknowledged or as lost.

@@ -6,14 +6,14 @@ static const uint64_t END = UINT64_C(1) << 62; /* the first that is too great */
 
 static void configs(void) {
   const uint64_t count_end = (UINT64_C(1) << 60) + 1;
-  const qs_config good = {sizeof good, QS_CLIENT, 1, 1, 1, 1, 1, 1, 1};
+  const qs_config good = {QS_CLIENT, 1, 1, 1, 1, 1, 1, 1};
   qs_conn a = QS_CONN_INIT;
   qs_config config = good;
-  config.size = 0;
-  SAME(qs_conn_open(&a, &config), QS_ERR_ARGUMENT);
-  config = good;
-  config.side = 2;
-  SAME(qs_conn_open(&a, &config), QS_ERR_ARGUMENT);
+  const uint64_t sides[] = {2, UINT64_C(1) << 32, UINT64_MAX};
+  for (size_t i = 0; i < 3; i++) {
+    config.side = sides[i];
+    SAME(qs_conn_open(&a, &config), QS_ERR_ARGUMENT);
+  }
   uint64_t *counts[] = {&config.max_remote_uni, &config.max_remote_bidi};
   for (size_t i = 0; i < 2; i++) {
     config = good;
@@ -50,6 +50,16 @@ static void limits(qs_conn *a) {
     SAME(qs_set_peer_limits(a, &limits), QS_ERR_ARGUMENT);
     *each = most;
     SAME(qs_set_peer_limits(a, &limits), QS_OK);
+  }
+  const uint64_t sizes[] = {END, UINT64_MAX - 1, QS_NONE, 9};
+  for (size_t i = 0; i < 4; i++) {
+    qs_peer_limits limits = good;
+    size_t size = 0;
+    limits.max_datagram = sizes[i];
+    SAME(qs_set_peer_limits(a, &limits), QS_OK);
+    const int32_t wanted = sizes[i] == QS_NONE ? QS_ERR_DATAGRAMS_OFF : QS_OK;
+    SAME(qs_datagram_max_size(a, &size), wanted);
+    SAME(size, wanted == QS_OK ? sizes[i] : 0);
   }
 }
 
@@ -167,15 +177,52 @@ static void rest(qs_conn *a) {
   SAME(qs_datagram_set_max_size(a, UINT64_MAX - 1), QS_OK);
 }
 
+/* What is pending is written with so much room, and not with less. */
+static void needs(qs_conn *a, uint32_t part, size_t least) {
+  packet p;
+  qs_due due;
+  for (size_t cap = 0; cap < least; cap++) {
+    SAME(emit(a, part, cap, &p), QS_DONE);
+    SAME(qs_get_due(a, &due), QS_OK);
+    SAME(due.control + due.datagrams * 2 + due.streams * 4, part);
+  }
+  SAME(emit(a, part, least, &p), QS_OK);
+}
+
+static void rooms(void) {
+  qs_conn a = QS_CONN_INIT;
+  uint8_t data[20] = {0};
+  uint64_t id = 0, code = 0;
+  size_t written = 0;
+  SAME(open_end(&a, QS_CLIENT, 4, 1000, 1000), QS_OK);
+  SAME(qs_stream_open(&a, QS_BIDI, &id), QS_OK);
+  SAME(qs_stream_write(&a, id, data, 1, &written, &code), QS_OK);
+  needs(&a, QS_STREAMS, QS_MIN_ROOM);
+  SAME(qs_stream_reset(&a, id, 0), QS_OK);
+  needs(&a, QS_CONTROL, QS_MIN_ROOM);
+  SAME(qs_stream_stop(&a, id, 0), QS_OK);
+  needs(&a, QS_CONTROL, 18);
+  SAME(qs_set_receive_window(&a, 2000), QS_OK);
+  needs(&a, QS_CONTROL, 10);
+  SAME(qs_set_max_concurrent(&a, QS_UNI, 9), QS_OK);
+  needs(&a, QS_CONTROL, 10);
+  SAME(qs_datagram_send(&a, data, 8, 0), QS_OK);
+  needs(&a, QS_DATAGRAMS, 10);
+  SAME(qs_datagram_send(&a, data, 20, 0), QS_OK);
+  needs(&a, QS_DATAGRAMS, 22); /* its type, its length and its data */
+  qs_conn_free(&a);
+}
+
 int main(void) {
   qs_conn a = QS_CONN_INIT;
   configs();
+  rooms();
   SAME(open_end(&a, QS_CLIENT, 4, 1000, 1000), QS_OK);
   limits(&a);
   streams(&a);
   frames(&a);
   rest(&a);
   qs_conn_free(&a);
-  printf("bounds: 5 tests\n");
+  printf("bounds: 6 tests\n");
   return 0;
 }

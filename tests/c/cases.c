@@ -59,8 +59,7 @@ typedef struct {
 } pair;
 
 static int open_end(qs_conn *conn, uint32_t side, uint64_t count) {
-  qs_config config = {sizeof config, side,  count,   0, LIMIT,
-                      LIMIT,         LIMIT, QS_NONE, 0};
+  qs_config config = {side, count, 0, LIMIT, LIMIT, LIMIT, QS_NONE, 0};
   qs_peer_limits limits = {LIMIT, 0, count, LIMIT, LIMIT, LIMIT, QS_NONE};
   return qs_conn_open(conn, &config) == QS_OK &&
          qs_set_peer_limits(conn, &limits) == QS_OK;

@@ -41,8 +41,7 @@ static inline void same_bytes(const uint8_t *found, size_t len,
  * all and on each stream, and is permitted as much. */
 static inline int32_t open_end(qs_conn *conn, uint32_t side, uint64_t count,
                                uint64_t window, uint64_t each) {
-  qs_config config = {sizeof config, side, count, count, window,
-                      window,        each, 4096,  4096};
+  qs_config config = {side, count, count, window, window, each, 4096, 4096};
   qs_peer_limits limits = {window, count, count, each, each, each, 1200};
   int32_t answer = qs_conn_open(conn, &config);
   return answer == QS_OK ? qs_set_peer_limits(conn, &limits) : answer;

@@ -9,7 +9,6 @@ static qs_conn open_server(void) {
   qs_conn server = QS_CONN_INIT;
   qs_config config;
   qs_peer_limits limits;
-  config.size = sizeof config;
   config.side = QS_SERVER;
   config.max_remote_uni = 3;
   config.max_remote_bidi = 5;

@@ -24,8 +24,7 @@ static int32_t take(qs_conn *to, const packet *p, size_t *next) {
 
 static void session(void) {
   qs_conn a = QS_CONN_INIT, b = QS_CONN_INIT;
-  const qs_config config = {sizeof config, QS_CLIENT, 2,   2,  4000,
-                            4000,          2000,      500, 500};
+  const qs_config config = {QS_CLIENT, 2, 2, 4000, 4000, 2000, 500, 500};
   qs_config config_b = config;
   const qs_peer_limits limits = {4000, 2, 2, 2000, 2000, 2000, 100};
   uint64_t id = 0, code = 0, offset = 0;
@@ -138,8 +137,7 @@ static size_t read_lent(qs_conn *conn, uint64_t id, uint8_t byte) {
 static void session_without_copies(void) {
   qs_conn a = QS_CONN_INIT, b = QS_CONN_INIT;
   qs_buffer buffer = QS_BUFFER_INIT;
-  const qs_config config = {sizeof config, QS_CLIENT, 2,   2,  9000,
-                            9000,          9000,      500, 500};
+  const qs_config config = {QS_CLIENT, 2, 2, 9000, 9000, 9000, 500, 500};
   qs_config config_b = config;
   const qs_peer_limits limits = {9000, 2, 2, 9000, 9000, 9000, 100};
   uint64_t id = 0, code = 0;

@@ -12,29 +12,21 @@
  *
  * Build it with -Wl,--wrap=malloc,--wrap=realloc,--wrap=free, with libFuzzer:
  *
- *     clang -g -fsanitize=fuzzer -Iinclude
- * -Wl,--wrap=malloc,--wrap=realloc,--wrap=free \ tests/fuzz/hostile_peer.c
- * build/lib/libquic_streams.a -o fuzz
+ *     clang -g -fsanitize=fuzzer -Iinclude \
+ *         -Wl,--wrap=malloc,--wrap=realloc,--wrap=free \
+ *         tests/fuzz/hostile_peer.c build/lib/libquic_streams.a -o fuzz
  *     ./fuzz -max_len=4096
  *
  * or with -DMAIN for AFL++, and for files that are named.
- * tests/fuzz/coverage.py tells which part of the library some inputs reach. */
+ * tests/fuzz/coverage.py prints which part of the library inputs reach. */
 #include "../c/wrapped.h"
+#include "input.h"
 #include "quic_streams.h"
 
-#include <stdio.h>
-#include <stdlib.h>
 #include <string.h>
-
-int LLVMFuzzerTestOneInput(const uint8_t *data, size_t size);
 
 enum { IDS = 32, SPAN = 2048, FLIGHT = 32, WINDOW = 1500, STREAM_WINDOW = 600 };
 enum { STREAMS_EACH = 4, PEER_DATA = 1000, PEER_STREAM_DATA = 300 };
-
-static struct {
-  const uint8_t *at;
-  size_t left;
-} input;
 
 /* What is known of a stream, from what went over. */
 typedef struct {
@@ -58,18 +50,6 @@ static struct {
   int is_closed, has_stopped;
 } e;
 
-static uint64_t take(unsigned bytes) {
-  uint64_t value = 0;
-  for (; bytes > 0 && input.left > 0; bytes--, input.left--)
-    value = value << 8 | *input.at++;
-  return value;
-}
-
-static void must(int holds) {
-  if (!holds)
-    abort();
-}
-
 /* The library is not instrumented: what its calls return, and which frames it
  * writes, is what libFuzzer sees of it. */
 #ifndef MAIN
@@ -90,9 +70,8 @@ static uint8_t byte_of(uint64_t id, uint64_t offset) {
 static int is_own(uint64_t id) { return (uint32_t)(id & 1) == e.side; }
 
 static void start(void) {
-  const qs_config config = {sizeof config, e.side, STREAMS_EACH,
-                            STREAMS_EACH,  2000,   WINDOW,
-                            STREAM_WINDOW, 300,    300};
+  const qs_config config = {e.side, STREAMS_EACH,  STREAMS_EACH, 2000,
+                            WINDOW, STREAM_WINDOW, 300,          300};
   const qs_peer_limits limits = {
       PEER_DATA,        STREAMS_EACH,     STREAMS_EACH, PEER_STREAM_DATA,
       PEER_STREAM_DATA, PEER_STREAM_DATA, 100};
@@ -433,17 +412,3 @@ int LLVMFuzzerTestOneInput(const uint8_t *data, size_t size) {
   must(held == before);
   return 0;
 }
-
-#ifdef MAIN
-int main(int argc, char **argv) {
-  static uint8_t data[1 << 16];
-  for (int i = 1; i < argc; i++) {
-    FILE *file = fopen(argv[i], "rb");
-    if (!file)
-      return 2;
-    (void)LLVMFuzzerTestOneInput(data, fread(data, 1, sizeof data, file));
-    fclose(file);
-  }
-  return 0;
-}
-#endif

@@ -1,5 +1,5 @@
-/* A harness for libFuzzer and AFL++ over two ends: calls and bytes of payloads
- * are drawn from the input.
+/* A harness for libFuzzer and AFL++ over two endpoints: calls and bytes of
+ * payloads are drawn from the input.
  *
  * With libFuzzer:
  *
@@ -13,31 +13,10 @@
  *         build/lib/libquic_streams.a -o two_ends
  *     afl-fuzz -i seeds -o found -- ./two_ends @@
  */
+#include "input.h"
 #include "quic_streams.h"
 
-#include <stdio.h>
-#include <stdlib.h>
 #include <string.h>
-
-int LLVMFuzzerTestOneInput(const uint8_t *data, size_t size);
-
-typedef struct {
-  const uint8_t *at;
-  size_t left;
-} input;
-
-static uint64_t take(input *in, unsigned bytes) {
-  uint64_t value = 0;
-  for (; bytes > 0 && in->left > 0; bytes--, in->left--)
-    value = value << 8 | *in->at++;
-  return value;
-}
-
-/* What must hold whatever came. */
-static void must(int holds) {
-  if (!holds)
-    abort();
-}
 
 enum { HELD = 16 };
 
@@ -49,13 +28,12 @@ typedef struct {
   qs_buffer buffer;
 } end;
 
-static void open_end(end *e, uint32_t side, input *in) {
-  const uint64_t count = take(in, 1) % 16, window = take(in, 2);
-  const qs_config config = {sizeof config, side,        count,
-                            count,         take(in, 2), window,
-                            window / 2,    take(in, 2), take(in, 2)};
-  const qs_peer_limits limits = {window,     count,      count,      window / 2,
-                                 window / 2, window / 2, take(in, 1)};
+static void open_end(end *e, uint32_t side) {
+  const uint64_t count = take(1) % 16, window = take(2);
+  const qs_config config = {side,   count,      count,   take(2),
+                            window, window / 2, take(2), take(2)};
+  const qs_peer_limits limits = {window,     count,      count,  window / 2,
+                                 window / 2, window / 2, take(1)};
   must(qs_conn_open(&e->conn, &config) == QS_OK);
   must(qs_buffer_reserve(&e->buffer, 0) == QS_OK);
   must(qs_set_peer_limits(&e->conn, &limits) == QS_OK);
@@ -87,8 +65,8 @@ static int32_t emit(end *e, uint32_t parts, uint32_t fair, size_t cap,
   return answer;
 }
 
-/* Takes a payload, from where it is or from a buffer. A frame of the host's is
- * taken for one of a byte. */
+/* Receives a payload, from where it is or from a buffer. A frame of the host is
+ * passed over as one byte. */
 static void receive(end *e, const uint8_t *payload, size_t len, int buffered) {
   size_t next = 0;
   qs_error error = {0, 0, {0}};
@@ -125,13 +103,13 @@ static void read_lent(end *e, uint64_t id, size_t max) {
   (void)sum;
 }
 
-static void call(end *e, end *peer, input *in) {
-  uint64_t id = take(in, 1) % 64, out = 0, code = 0;
+static void call(end *e, end *peer) {
+  uint64_t id = take(1) % 64, out = 0, code = 0;
   size_t count = 0, next = 0;
   uint8_t bytes[256] = {0};
   qs_event event = {0, 0, 0, 0};
   qs_info info;
-  const uint64_t kind = take(in, 1) % 23;
+  const uint64_t kind = take(1) % 23;
   switch (kind) {
   case 0:
     (void)qs_stream_open(&e->conn, (uint32_t)id % 2, &out);
@@ -140,7 +118,7 @@ static void call(end *e, end *peer, input *in) {
     (void)qs_stream_accept(&e->conn, (uint32_t)id % 2, &out);
     break;
   case 2:
-    count = take(in, 1);
+    count = take(1);
     memset(bytes, (int)id, sizeof bytes);
     if (qs_stream_write(&e->conn, id, bytes, count, &next, &code) == QS_OK)
       must(next <= count);
@@ -149,17 +127,17 @@ static void call(end *e, end *peer, input *in) {
     (void)qs_stream_finish(&e->conn, id, &code);
     break;
   case 4:
-    (void)qs_stream_reset(&e->conn, id, take(in, 1));
+    (void)qs_stream_reset(&e->conn, id, take(1));
     break;
   case 5:
-    (void)qs_stream_stop(&e->conn, id, take(in, 1));
+    (void)qs_stream_stop(&e->conn, id, take(1));
     break;
   case 6:
-    (void)qs_stream_set_priority(&e->conn, id, (int32_t)take(in, 1) - 128);
+    (void)qs_stream_set_priority(&e->conn, id, (int32_t)take(1) - 128);
     break;
   case 7:
   case 8: {
-    const size_t cap = take(in, 1);
+    const size_t cap = take(1);
     const int32_t answer =
         kind == 8 ? qs_stream_read_unordered(&e->conn, id, bytes, cap, &count,
                                              &out, &code)
@@ -173,52 +151,52 @@ static void call(end *e, end *peer, input *in) {
     (void)qs_stream_received_reset(&e->conn, id, &code);
     break;
   case 10:
-    (void)qs_set_receive_window(&e->conn, take(in, 2));
+    (void)qs_set_receive_window(&e->conn, take(2));
     break;
   case 11:
-    (void)qs_set_max_concurrent(&e->conn, (uint32_t)id % 2, take(in, 1));
+    (void)qs_set_max_concurrent(&e->conn, (uint32_t)id % 2, take(1));
     break;
   case 12:
     (void)qs_poll(&e->conn, &event);
     break;
   case 13:
-    (void)qs_datagram_send(&e->conn, bytes, take(in, 1), (uint32_t)id % 2);
+    (void)qs_datagram_send(&e->conn, bytes, take(1), (uint32_t)id % 2);
     break;
   case 14:
     (void)qs_datagram_recv(&e->conn, bytes, sizeof bytes, &count);
     break;
-  case 15: /* bytes that no end wrote */
-    for (count = take(in, 1) % 64; next < count; next++)
-      bytes[next] = (uint8_t)take(in, 1);
+  case 15: /* bytes that no endpoint wrote */
+    for (count = take(1) % 64; next < count; next++)
+      bytes[next] = (uint8_t)take(1);
     receive(e, bytes, count, id % 2);
     break;
   case 16:
   case 17:
     if (e->held < HELD) {
-      const size_t cap = take(in, 1);
+      const size_t cap = take(1);
       qs_payload *head = &e->heads[e->held];
       memset(e->packets[e->held], 0, sizeof e->packets[0]);
       memset(head, 0, sizeof *head);
-      if (emit(e, 1 + (uint32_t)id % 7, (uint32_t)kind % 2, cap,
-               take(in, 1) % 3) == QS_OK) {
+      if (emit(e, 1 + (uint32_t)id % 7, (uint32_t)kind % 2, cap, take(1) % 3) ==
+          QS_OK) {
         must(head->len > 0 && head->len <= cap && head->token > 0);
         e->held++;
       }
     }
     break;
   case 18:
-  case 19: /* a payload comes; it stays, and may come again */
+  case 19: /* a payload is delivered, perhaps again later */
     if (e->held > 0) {
       const size_t at = (size_t)id % e->held;
       receive(peer, e->packets[at], (size_t)e->heads[at].len, kind == 19);
     }
     break;
-  case 20: /* a payload is settled */
+  case 20: /* a payload is reported */
     if (e->held > 0) {
       const size_t at = (size_t)id % e->held, last = e->held - 1;
       const uint64_t token = e->heads[at].token;
-      must((take(in, 1) % 2 ? qs_acked(&e->conn, token)
-                            : qs_lost(&e->conn, token)) == QS_OK);
+      must((take(1) % 2 ? qs_acked(&e->conn, token)
+                        : qs_lost(&e->conn, token)) == QS_OK);
       must(qs_lost(&e->conn, token) == QS_ERR_TOKEN);
       if (at != last)
         memcpy(e->packets[at], e->packets[last], sizeof e->packets[0]);
@@ -227,7 +205,7 @@ static void call(end *e, end *peer, input *in) {
     }
     break;
   case 21:
-    read_lent(e, id, (size_t)take(in, 1) % 9);
+    read_lent(e, id, (size_t)take(1) % 9);
     break;
   default:
     memset(&info, 0, sizeof info);
@@ -238,13 +216,14 @@ static void call(end *e, end *peer, input *in) {
 
 int LLVMFuzzerTestOneInput(const uint8_t *data, size_t size) {
   static end ends[2], none;
-  input in = {data, size};
+  input.at = data;
+  input.left = size;
   ends[0] = ends[1] = none;
-  open_end(&ends[0], QS_CLIENT, &in);
-  open_end(&ends[1], QS_SERVER, &in);
-  while (in.left > 0) {
-    const size_t who = (size_t)take(&in, 1) % 2;
-    call(&ends[who], &ends[1 - who], &in);
+  open_end(&ends[0], QS_CLIENT);
+  open_end(&ends[1], QS_SERVER);
+  while (input.left > 0) {
+    const size_t who = (size_t)take(1) % 2;
+    call(&ends[who], &ends[1 - who]);
   }
   qs_conn_free(&ends[0].conn);
   qs_conn_free(&ends[1].conn);
@@ -252,17 +231,3 @@ int LLVMFuzzerTestOneInput(const uint8_t *data, size_t size) {
   qs_buffer_free(&ends[1].buffer);
   return 0;
 }
-
-#ifdef MAIN
-int main(int argc, char **argv) {
-  static uint8_t data[1 << 16];
-  for (int i = 1; i < argc; i++) {
-    FILE *file = fopen(argv[i], "rb");
-    if (!file)
-      return 2;
-    (void)LLVMFuzzerTestOneInput(data, fread(data, 1, sizeof data, file));
-    fclose(file);
-  }
-  return 0;
-}
-#endif

@@ -13,7 +13,6 @@ use Rattle.quic_session.specs.declared.processing.Halt.TheVariants as halt
 use Rattle.quic_session.specs.Emitting.{EmitsLent, KeepsBuffer, GoesOnWithFrames}
 use Rattle.quic_session.specs.Receiving.{ReceivesOnly}
 use Rattle.quic_session.specs.Processing.{ProcessesHeld}
-use Rattle.quic_streams_c.specs.declared.payloads.RawPayload.{RawPayload}
 use Rattle.quic_streams_c.specs.declared.peer.RawError.{RawError}
 use Rattle.quic_streams_c.specs.Calls.{Refuses, WithNumber}
 use Rattle.quic_streams_c.specs.Frames.{TellsReceived}
@@ -68,7 +67,7 @@ abbrev pub FreesRaw : Held → Type 0
 FreesRaw new = (new.value ≡ None) × IsShown None new.bytes new.len
 
 -- a payload of at most so many bytes is written into a buffer, of these parts
-pub record EmittingHeld (s : Session) (parts : Parts) (fair : Bool) (most : ℕ) (b : Buffer) (code : ℤ) (t : Session) (d : Buffer) (was now : RawPayload) : Type 0 where
+pub record EmittingHeld (s : Session) (parts : Parts) (fair : Bool) (most : ℕ) (b : Buffer) (code : ℤ) (t : Session) (d : Buffer) (was now : List ℕ) : Type 0 where
   pub answer : Result (Option Emitted) OutOfMemory
   pub emits : EmitsLent most s parts fair answer t d.bytes.items
   pub buffer : KeepsBuffer answer b d
@@ -76,7 +75,7 @@ pub record EmittingHeld (s : Session) (parts : Parts) (fair : Bool) (most : ℕ)
   pub conn : t.conn ≡ s.conn
   pub tells : TellsPayload answer code was now
 
-abbrev pub EmitsHeld : Session → ℕ → ℕ → ℕ → Buffer → ℤ → Session → Buffer → RawPayload → RawPayload → Type 0
+abbrev pub EmitsHeld : Session → ℕ → ℕ → ℕ → Buffer → ℤ → Session → Buffer → List ℕ → List ℕ → Type 0
 EmitsHeld s parts fair most b code t d was now = WithNumber (parts_at parts) (Refuses s code t × (d ≡ b) × (now ≡ was)) (λ p. EmittingHeld s p (not (fair == 0)) most b code t d was now)
 
 -- a call on a buffer: of a closed one the answer is QS_ERR_CLOSED, and it stays closed, without bytes
@@ -89,7 +88,7 @@ WithBuffer s (Some b) code t new Keeps Does = by-new new.value
     by-new (Some d) = Does b d × IsShown (Some d) new.bytes new.len
 
 -- qs_emit_buffer
-abbrev pub EmitsBufferRaw : Session → ℕ → ℕ → ℕ → Option Buffer → ℤ → Session → Held → RawPayload → RawPayload → Type 0
+abbrev pub EmitsBufferRaw : Session → ℕ → ℕ → ℕ → Option Buffer → ℤ → Session → Held → List ℕ → List ℕ → Type 0
 EmitsBufferRaw s parts fair most old code t new was now = WithBuffer s old code t new (now ≡ was) (λ b d. EmitsHeld s parts fair most b code t d was now)
 
 -- the payload is processed from an offset on, and stays in front of a frame that the host processes

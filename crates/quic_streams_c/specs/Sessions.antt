@@ -77,8 +77,8 @@ SessionTellsPriority s id answer t = (was_given (end_of s).streams id ≡ true �
     × (was_given (end_of s).streams id ≡ false → answer ≡ Err (record {})) × (end_of t ≡ end_of s) × (beside_of t ≡ beside_of s)
 
 -- the code of the peer's STOP_SENDING for a stream, as qs_stream_stopped returns it
-abbrev pub stop_of : Session → ℕ → Result (Option ℕ) ClosedStream
-stop_of s id = if was_given (end_of s).streams id then told_of_half (λ h. h.stop_reason) ((end_of s).streams.out.halves id) else Err (record {})
+abbrev pub stop_code_of : Session → ℕ → Result (Option ℕ) ClosedStream
+stop_code_of s id = if was_given (end_of s).streams id then told_of_half (λ h. h.stop_reason) ((end_of s).streams.out.halves id) else Err (record {})
 
 -- the code with which the peer stopped one
 abbrev pub SessionTellsStop : Session → ℕ → Result (Option ℕ) ClosedStream → Session → Type 0

@@ -1,5 +1,5 @@
 -- What C sets of a session, and asks of it.
-use Rattle.std.specs.Prelude.{ℕ, ℤ, Bool, false, pos, negsuc, ◌≡◌, ◌⊎◌, ◌==◌, ◌^◌, ◌<◌, ◌≤◌, not, nat_lt, is_some, if◌then◌else◌, List, [], ◌∷◌, length, Option, Some, None, IsOk, OnErr, Result, Ok, Err}
+use Rattle.std.specs.Prelude.{ℕ, ℤ, Bool, false, pos, negsuc, ◌≡◌, ◌⊎◌, ◌==◌, ◌^◌, ◌<◌, ◌≤◌, not, nat_lt, is_some, if◌then◌else◌, List, [], ◌∷◌, length, slice_index, Option, Some, None, IsOk, OnErr, Result, Ok, Err}
 use Rattle.std.specs.List.{list_any}
 use Rattle.quic_values.specs.declared.memory.OutOfMemory.{OutOfMemory}
 use Rattle.quic_values.specs.declared.ids.Side.{Side}
@@ -34,13 +34,26 @@ use Rattle.quic_streams_c.specs.Answers.{TellsDone, memory_code}
 use Rattle.quic_streams_c.specs.Calls.{Refuses, WithNumber}
 use Rattle.quic_streams_c.specs.Numbers.{small, dir_at, length_at}
 use Rattle.quic_streams_c.specs.Sessions.{GoesOn, Unchanged}
+use Rattle.quic_streams_c.specs.Words.{words_filled, WithKnown}
 
 abbrev pub side_at : ℕ → Side
 side_at n = if n == 0 then Client else Server
 
+-- the words of qs_config
+abbrev pub config_at : List ℕ → RawConfig
+config_at words = record {
+  side = slice_index words 0;
+  max_remote_uni = slice_index words 1;
+  max_remote_bi = slice_index words 2;
+  send_window = slice_index words 3;
+  receive_window = slice_index words 4;
+  stream_window = slice_index words 5;
+  datagram_receive = slice_index words 6;
+  datagram_send = slice_index words 7;
+}
+
 -- a configuration has no number that is too large
 pub record IsConfig (c : RawConfig) : Type 0 where
-  pub size : c.size ≡ 64
   pub side : c.side < 2
   pub uni : c.max_remote_uni ≤ 2 ^ 60
   pub bi : c.max_remote_bi ≤ 2 ^ 60
@@ -82,10 +95,26 @@ pub record MakesNew (r : RawConfig) (code : ℤ) (new : Option Session) : Type 0
   pub is : IsConfigOf r config
   pub made : ((code ≡ negsuc 1) × (new ≡ None)) ⊎ ((code ≡ pos 0) × ((s : Session) × (new ≡ Some s) × IsNewOf config s))
 
+-- a closed handle is opened, or stays closed
+abbrev pub OpensClosed : RawConfig → ℤ → Option Session → Type 0
+OpensClosed r code new = ((code ≡ negsuc 2) × (new ≡ None) × (IsConfig r → ⊥)) ⊎ MakesNew r code new
+
 -- qs_conn_open: an open handle stays as it is
-abbrev pub OpensHandle : RawConfig → Option Session → ℤ → Option Session → Type 0
-OpensHandle r (Some s) code new = (code ≡ negsuc 3) × (new ≡ Some s)
-OpensHandle r None code new = ((code ≡ negsuc 2) × (new ≡ None) × (IsConfig r → ⊥)) ⊎ MakesNew r code new
+abbrev pub OpensHandle : List ℕ → Option Session → ℤ → Option Session → Type 0
+OpensHandle words (Some s) code new = (code ≡ negsuc 3) × (new ≡ Some s)
+OpensHandle words None code new = WithKnown 8 words ((code ≡ negsuc 2) × (new ≡ None)) (OpensClosed (config_at words) code new)
+
+-- the words of qs_peer_limits
+abbrev pub limits_at : List ℕ → RawLimits
+limits_at words = record {
+  max_data = slice_index words 0;
+  max_streams_bidi = slice_index words 1;
+  max_streams_uni = slice_index words 2;
+  stream_data_uni = slice_index words 3;
+  stream_data_bidi_local = slice_index words 4;
+  stream_data_bidi_remote = slice_index words 5;
+  max_datagram = slice_index words 6;
+}
 
 -- six limits that can be encoded
 pub record AreLimits (r : RawLimits) : Type 0 where
@@ -127,11 +156,15 @@ pub record RefusesLimits (s : Session) (r : RawLimits) (code : ℤ) (t : Session
   pub is : code ≡ negsuc 2
   pub same : Unchanged s t
 
--- qs_set_peer_limits
+-- limits are set, if they can be
 abbrev pub SetsLimits : Session → RawLimits → ℤ → Session → Type 0
 SetsLimits s r code t = (Refuses s code t × ((AreLimits r) → ⊥))
     ⊎ (AreLimits r × (answer : Result (Unit {0}) OutOfMemory) × TakesLimitsOrNone s r answer t × IsFreeOf s answer × TellsDone memory_code answer code)
     ⊎ (AreLimits r × RefusesLimits s r code t)
+
+-- qs_set_peer_limits
+abbrev pub SetsLimitsRaw : Session → List ℕ → ℤ → Session → Type 0
+SetsLimitsRaw s words code t = WithKnown 7 words (Refuses s code t) (SetsLimits s (limits_at words) code t)
 
 -- qs_conn_close
 abbrev pub Closes : Session → ℤ → Session → Type 0
@@ -193,9 +226,15 @@ pub record IsInfo (s : Session) (i : RawInfo) : Type 0 where
   pub sendable : i.can_send_stream_data ≡ flag (list_any (λ id. is_some (sending_priority ((end_of s).streams.out.halves id))) (ids_of (line (end_of s).streams.queue)))
   pub pending : (empty : Bool) × TellsEmpty (end_of s).streams (end_of s).pending empty × (i.has_pending ≡ flag (not empty))
 
+-- the words of qs_info
+abbrev pub info_words : RawInfo → List ℕ
+info_words i = i.max_concurrent_bidi ∷ i.max_concurrent_uni ∷ i.max_remote_bidi ∷ i.max_remote_uni ∷ i.next_remote_bidi ∷ i.next_remote_uni
+    ∷ i.remote_open_bidi ∷ i.remote_open_uni ∷ i.local_max_data ∷ i.data_received ∷ i.write_limit ∷ i.send_streams ∷ i.payloads
+    ∷ i.can_send_stream_data ∷ i.has_pending ∷ []
+
 -- qs_get_info
-abbrev pub TellsInfo : Session → ℤ → Session → RawInfo → Type 0
-TellsInfo s code t now = (code ≡ pos 0) × Unchanged s t × IsInfo s now
+abbrev pub TellsInfo : Session → ℤ → Session → List ℕ → List ℕ → Type 0
+TellsInfo s code t was now = (code ≡ pos 0) × Unchanged s t × ((i : RawInfo) × IsInfo s i × (now ≡ words_filled (info_words i) was))
 
 -- what C is told of what waits to be sent
 pub record IsDue (s : Session) (d : RawDue) : Type 0 where
@@ -203,6 +242,10 @@ pub record IsDue (s : Session) (d : RawDue) : Type 0 where
   pub datagrams : d.datagrams ≡ flag (not (length s.datagrams.outgoing == 0))
   pub streams : d.streams ≡ flag (list_any (λ id. is_some (sending_priority ((end_of s).streams.out.halves id))) (ids_of (line (end_of s).streams.queue)))
 
+-- the words of qs_due
+abbrev pub due_words : RawDue → List ℕ
+due_words d = d.control ∷ d.datagrams ∷ d.streams ∷ []
+
 -- qs_get_due
-abbrev pub TellsDue : Session → ℤ → Session → RawDue → Type 0
-TellsDue s code t now = (code ≡ pos 0) × Unchanged s t × IsDue s now
+abbrev pub TellsDue : Session → ℤ → Session → List ℕ → List ℕ → Type 0
+TellsDue s code t was now = (code ≡ pos 0) × Unchanged s t × ((d : RawDue) × IsDue s d × (now ≡ words_filled (due_words d) was))

@@ -13,7 +13,7 @@ use Rattle.quic_session.specs.Reading.{ReadsInto, ReadsManyInto}
 use Rattle.quic_streams_c.specs.Answers.{memory_code, handle_code, closed_code, TellsDone, TellsSigned, TellsSome, TellsOption, stopped_first, TellsWrite, TellsFinish, TellsRead, TellsMany}
 use Rattle.quic_streams_c.specs.Calls.{Refuses, WithNumber}
 use Rattle.quic_streams_c.specs.Numbers.{small, dir_at}
-use Rattle.quic_streams_c.specs.Sessions.{SessionOpens, SessionAccepts, SessionWrites, SessionFinishes, SessionResets, SessionStops, SessionSetsPriority, SessionTellsPriority, stop_of, SessionTellsStop, SessionTellsReset}
+use Rattle.quic_streams_c.specs.Sessions.{SessionOpens, SessionAccepts, SessionWrites, SessionFinishes, SessionResets, SessionStops, SessionSetsPriority, SessionTellsPriority, stop_code_of, SessionTellsStop, SessionTellsReset}
 
 -- qs_stream_open
 abbrev pub OpensRaw : Session → ℕ → ℤ → Session → ℕ → ℕ → Type 0
@@ -29,7 +29,7 @@ AcceptsRaw s dir code t was now = WithNumber (dir_at dir) (Refuses s code t × (
 -- be written on a stopped stream, so the host has to learn of the stop also while there is no credit
 abbrev pub WritesRaw : Session → ℕ → List ℕ → ℤ → Session → ℕ → ℕ → ℕ → ℕ → Type 0
 WritesRaw s id bytes code t was now app app' = WithNumber (small id) (Refuses s code t × (now ≡ was) × (app' ≡ app)) (λ i.
-    (answer : Result ℕ WriteError) × SessionWrites s i bytes answer t × TellsWrite (stopped_first answer (stop_of t i)) code was now app app')
+    (answer : Result ℕ WriteError) × SessionWrites s i bytes answer t × TellsWrite (stopped_first answer (stop_code_of t i)) code was now app app')
 
 -- qs_stream_finish
 abbrev pub FinishesRaw : Session → ℕ → ℤ → Session → ℕ → ℕ → Type 0

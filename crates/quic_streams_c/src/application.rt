@@ -3,7 +3,7 @@
 ghost use Rattle.std.specs.Prelude.{◌≡◌, pos, true, false};
 ghost use Rattle.quic_streams_c.specs.Answers.{memory_code, handle_code, closed_code, TellsDone, TellsSigned, TellsSome, TellsOption, stopped_first, TellsWrite, TellsFinish, TellsRead};
 ghost use Rattle.quic_streams_c.specs.Calls.{Calls};
-ghost use Rattle.quic_streams_c.specs.Sessions.{stop_of, Unchanged};
+ghost use Rattle.quic_streams_c.specs.Sessions.{stop_code_of, Unchanged};
 ghost use Rattle.quic_streams_c.specs.Streams.{OpensRaw, AcceptsRaw, WritesRaw, FinishesRaw, ResetsRaw, StopsRaw, SetsPriorityRaw, TellsPriorityRaw, TellsStopRaw, TellsResetRaw, ReadsRaw};
 
 use crate::codes::{
@@ -145,7 +145,7 @@ fn stopped_first(
     id: StreamId,
     answer: Result<usize, WriteError>,
 ) -> Result<usize, WriteError>
-    ensures answer { result ≡ stopped_first answer (stop_of session.old id) }
+    ensures answer { result ≡ stopped_first answer (stop_code_of session.old id) }
     ensures same { Unchanged session.old session.new }
 {
     if !matches!(answer, Err(WriteError::Blocked)) {

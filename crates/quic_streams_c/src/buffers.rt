@@ -9,7 +9,7 @@ ghost use Rattle.quic_streams_c.specs.Calls.{Calls};
 use crate::buffer_slot::BufferSlot;
 use crate::codes::{ARGUMENT, CLOSED, NO_MEMORY, OK};
 use crate::handle::{Handle, holding, take_out};
-use crate::payloads::{RawPayload, parts_of, tell_payload};
+use crate::payloads::{parts_of, tell_payload};
 use crate::peer::{RawError, tell_received};
 use quic_session::Session;
 use quic_session::buffer::Buffer;
@@ -163,21 +163,21 @@ pub extern "C" fn qs_buffer_free(alloc: Global, buffer: &mut RawBuffer)
 
 /// Writes what is to be sent into a buffer.
 #[unsafe(no_mangle)]
-pub extern "C" fn qs_emit_buffer(
+pub extern "C" fn qs_emit_buffer_words(
     alloc: Global,
     handle: &mut Handle,
     parts: u32,
     fair: u32,
     cap: usize,
     buffer: &mut RawBuffer,
-    payload: &mut RawPayload,
+    words: &mut [u64],
 ) -> i32
-    ensures { Calls handle.old.slot.value result handle.new.slot.value ((buffer.new ≡ buffer.old) × (payload.new ≡ payload.old)) (λ s t. EmitsBufferRaw s parts fair cap buffer.old.slot.value result t (record { value = buffer.new.slot.value; bytes = buffer.new.bytes; len = buffer.new.len }) payload.old payload.new) }
+    ensures { Calls handle.old.slot.value result handle.new.slot.value ((buffer.new ≡ buffer.old) × (words.new ≡ words.old)) (λ s t. EmitsBufferRaw s parts fair cap buffer.old.slot.value result t (record { value = buffer.new.slot.value; bytes = buffer.new.bytes; len = buffer.new.len }) words.old words.new) }
 {
     match take_out(alloc, handle) {
         None => CLOSED,
         Some(mut session) => {
-            let code = emit_buffer(alloc, &mut session, parts, fair, cap, buffer, payload);
+            let code = emit_buffer(alloc, &mut session, parts, fair, cap, buffer, words);
             *handle = holding(session);
             code
         }
@@ -192,14 +192,14 @@ fn emit_buffer(
     fair: u32,
     cap: usize,
     buffer: &mut RawBuffer,
-    payload: &mut RawPayload,
+    words: &mut [u64],
 ) -> i32
-    ensures { EmitsBufferRaw session.old parts fair cap buffer.old.slot.value result session.new (record { value = buffer.new.slot.value; bytes = buffer.new.bytes; len = buffer.new.len }) payload.old payload.new }
+    ensures { EmitsBufferRaw session.old parts fair cap buffer.old.slot.value result session.new (record { value = buffer.new.slot.value; bytes = buffer.new.bytes; len = buffer.new.len }) words.old words.new }
 {
     match take_buffer(alloc, buffer) {
         None => CLOSED,
         Some(mut held) => {
-            let code = emit_held(session, parts, fair, cap, &mut held, payload);
+            let code = emit_held(session, parts, fair, cap, &mut held, words);
             *buffer = showing(held);
             code
         }
@@ -213,15 +213,15 @@ fn emit_held(
     fair: u32,
     cap: usize,
     held: &mut Buffer,
-    payload: &mut RawPayload,
+    words: &mut [u64],
 ) -> i32
-    ensures { EmitsHeld session.old parts fair cap held.old result session.new held.new payload.old payload.new }
+    ensures { EmitsHeld session.old parts fair cap held.old result session.new held.new words.old words.new }
 {
     let Some(asked) = parts_of(parts) else {
         return ARGUMENT;
     };
     let fair = fair != 0;
-    tell_payload(&session.emit_buffer(held, cap, asked, fair), payload)
+    tell_payload(&session.emit_buffer(held, cap, asked, fair), words)
 }
 
 /// Processes the payload that is at the front of a buffer, as [`crate::peer::qs_receive`].

@@ -5,8 +5,9 @@ ghost use Rattle.std.specs.declared.option.Option.TheVariants.{None};
 ghost use Rattle.quic_streams_c.specs.Sessions.{Unchanged};
 ghost use Rattle.quic_streams_c.specs.Answers.{TellsDone, memory_code};
 ghost use Rattle.quic_streams_c.specs.Calls.{Calls};
+ghost use Rattle.quic_streams_c.specs.Words.{AreZeroFrom};
 ghost use Rattle.quic_streams_c.specs.Events.{raw_event, event_at, TellsEvent, TellsRaw, PollsRaw};
-ghost use Rattle.quic_streams_c.specs.Settings.{side_at, raw_limits, IsConfig, IsConfigOf, IsNewOf, OpensHandle, AreLimits, peer_limits, SetsLimits, Closes, Rejects, SendsEarlyAgain, SetsSendWindowRaw, SetsReceiveWindowRaw, SetsConcurrentRaw, flag, IsInfo, TellsInfo, IsDue, TellsDue};
+ghost use Rattle.quic_streams_c.specs.Settings.{side_at, raw_limits, config_at, IsConfig, IsConfigOf, IsNewOf, OpensHandle, limits_at, AreLimits, peer_limits, SetsLimits, SetsLimitsRaw, Closes, Rejects, SendsEarlyAgain, SetsSendWindowRaw, SetsReceiveWindowRaw, SetsConcurrentRaw, flag, IsInfo, info_words, TellsInfo, IsDue, due_words, TellsDue};
 ghost use Rattle.quic_session.specs.Sessions.{datagrams_view, next_told};
 
 use crate::codes::{
@@ -14,6 +15,7 @@ use crate::codes::{
     small,
 };
 use crate::handle::{Handle, closed, holding, take_out};
+use crate::words::{are_zero_from, fill_words, word_at};
 use quic_datagrams::DatagramLimits;
 use quic_session::Session;
 use quic_session::datagrams::DatagramEvent;
@@ -26,10 +28,8 @@ use std::alloc::Global;
 
 /// What a session begins with.
 #[derive(Clone, Copy)]
-#[repr(C)]
 pub struct RawConfig {
-    pub size: u32,
-    pub side: u32,
+    pub side: u64,
     pub max_remote_uni: u64,
     pub max_remote_bi: u64,
     pub send_window: u64,
@@ -41,7 +41,6 @@ pub struct RawConfig {
 
 /// The limits of the peer's transport parameters.
 #[derive(Clone, Copy)]
-#[repr(C)]
 pub struct RawLimits {
     pub max_data: u64,
     pub max_streams_bidi: u64,
@@ -64,7 +63,6 @@ pub struct RawEvent {
 
 /// What a session tells of itself.
 #[derive(Clone, Copy)]
-#[repr(C)]
 pub struct RawInfo {
     pub max_concurrent_bidi: u64,
     pub max_concurrent_uni: u64,
@@ -85,7 +83,6 @@ pub struct RawInfo {
 
 /// What waits to be sent, each 0 or 1.
 #[derive(Clone, Copy)]
-#[repr(C)]
 pub struct RawDue {
     pub control: u64,
     pub datagrams: u64,
@@ -94,6 +91,41 @@ pub struct RawDue {
 
 // From this count of streams on there is none (RFC 9000 section 4.6).
 const COUNT_END: u64 = (1 << 60) + 1;
+// How many words of a configuration the library knows.
+const CONFIG_WORDS: usize = 8;
+// How many words of the peer's limits it knows.
+const LIMIT_WORDS: usize = 7;
+
+// The configuration in a caller's words.
+fn config_at(words: &[u64]) -> RawConfig
+    ensures { result ≡ config_at words.now }
+{
+    RawConfig {
+        side: word_at(words, 0),
+        max_remote_uni: word_at(words, 1),
+        max_remote_bi: word_at(words, 2),
+        send_window: word_at(words, 3),
+        receive_window: word_at(words, 4),
+        stream_window: word_at(words, 5),
+        datagram_receive: word_at(words, 6),
+        datagram_send: word_at(words, 7),
+    }
+}
+
+// The limits in a caller's words.
+fn limits_at(words: &[u64]) -> RawLimits
+    ensures { result ≡ limits_at words.now }
+{
+    RawLimits {
+        max_data: word_at(words, 0),
+        max_streams_bidi: word_at(words, 1),
+        max_streams_uni: word_at(words, 2),
+        stream_data_uni: word_at(words, 3),
+        stream_data_bidi_local: word_at(words, 4),
+        stream_data_bidi_remote: word_at(words, 5),
+        max_datagram: word_at(words, 6),
+    }
+}
 
 // The limits of datagrams.
 fn datagram_limits(config: &RawConfig) -> DatagramLimits
@@ -107,7 +139,7 @@ fn datagram_limits(config: &RawConfig) -> DatagramLimits
 }
 
 // The side of a number.
-fn side_of(number: u32) -> Side
+fn side_of(number: u64) -> Side
     ensures { result ≡ side_at number }
 {
     if number == 0 {
@@ -121,7 +153,7 @@ fn side_of(number: u32) -> Side
 fn config_of(raw: &RawConfig) -> Option<Config>
     ensures { MatchOption result (IsConfig raw.now → ⊥) (λ c. IsConfig raw.now × IsConfigOf raw.now c) }
 {
-    if raw.size != 64 || raw.side >= 2 {
+    if raw.side >= 2 {
         return None;
     }
     if raw.max_remote_uni >= COUNT_END || raw.max_remote_bi >= COUNT_END {
@@ -155,13 +187,16 @@ fn new_session(alloc: Global, config: &Config) -> Result<Box<Session>, OutOfMemo
 
 /// Makes a session.
 #[unsafe(no_mangle)]
-pub extern "C" fn qs_conn_open(alloc: Global, handle: &mut Handle, config: &RawConfig) -> i32
-    ensures { OpensHandle config.now handle.old.slot.value result handle.new.slot.value }
+pub extern "C" fn qs_conn_open_words(alloc: Global, handle: &mut Handle, words: &[u64]) -> i32
+    ensures { OpensHandle words.now handle.old.slot.value result handle.new.slot.value }
 {
     if handle.live == 1 {
         return IN_USE;
     }
-    let Some(config) = config_of(config) else {
+    if !are_zero_from(words, CONFIG_WORDS) {
+        return ARGUMENT;
+    }
+    let Some(config) = config_of(&config_at(words)) else {
         return ARGUMENT;
     };
     match new_session(alloc, &config) {
@@ -220,13 +255,13 @@ fn raw_limits(raw: &RawLimits) -> Option<PeerLimits>
 
 /// Takes the limits of the peer's transport parameters.
 #[unsafe(no_mangle)]
-pub extern "C" fn qs_set_peer_limits(alloc: Global, handle: &mut Handle, limits: &RawLimits) -> i32
-    ensures { Calls handle.old.slot.value result handle.new.slot.value (Unit {0}) (λ s t. SetsLimits s limits.now result t) }
+pub extern "C" fn qs_set_peer_limits_words(alloc: Global, handle: &mut Handle, words: &[u64]) -> i32
+    ensures { Calls handle.old.slot.value result handle.new.slot.value (Unit {0}) (λ s t. SetsLimitsRaw s words.now result t) }
 {
     match take_out(alloc, handle) {
         None => CLOSED,
         Some(mut session) => {
-            let code = set_limits(&mut session, limits);
+            let code = set_limit_words(&mut session, words);
             *handle = holding(session);
             code
         }
@@ -234,6 +269,16 @@ pub extern "C" fn qs_set_peer_limits(alloc: Global, handle: &mut Handle, limits:
 }
 
 // The same, of a session.
+fn set_limit_words(session: &mut Session, words: &[u64]) -> i32
+    ensures { SetsLimitsRaw session.old words.now result session.new }
+{
+    if !are_zero_from(words, LIMIT_WORDS) {
+        return ARGUMENT;
+    }
+    set_limits(session, &limits_at(words))
+}
+
+// The same, of limits.
 fn set_limits(session: &mut Session, limits: &RawLimits) -> i32
     ensures { SetsLimits session.old limits.now result session.new }
 {
@@ -511,13 +556,13 @@ fn due_of(session: &mut Session) -> RawDue
 
 /// Tells what waits to be sent.
 #[unsafe(no_mangle)]
-pub extern "C" fn qs_get_due(alloc: Global, handle: &mut Handle, due: &mut RawDue) -> i32
-    ensures { Calls handle.old.slot.value result handle.new.slot.value (due.new ≡ due.old) (λ s t. TellsDue s result t due.new) }
+pub extern "C" fn qs_get_due_words(alloc: Global, handle: &mut Handle, words: &mut [u64]) -> i32
+    ensures { Calls handle.old.slot.value result handle.new.slot.value (words.new ≡ words.old) (λ s t. TellsDue s result t words.old words.new) }
 {
     match take_out(alloc, handle) {
         None => CLOSED,
         Some(mut session) => {
-            let code = tell_due(&mut session, due);
+            let code = tell_due(&mut session, words);
             *handle = holding(session);
             code
         }
@@ -525,22 +570,30 @@ pub extern "C" fn qs_get_due(alloc: Global, handle: &mut Handle, due: &mut RawDu
 }
 
 // The same, of a session.
-fn tell_due(session: &mut Session, due: &mut RawDue) -> i32
-    ensures { TellsDue session.old result session.new due.new }
+fn tell_due(session: &mut Session, words: &mut [u64]) -> i32
+    ensures { TellsDue session.old result session.new words.old words.new }
 {
-    *due = due_of(session);
+    let due = due_of(session);
+    fill_words(words, &due_words(&due));
     OK
+}
+
+// The words of what waits to be sent.
+fn due_words(due: &RawDue) -> [u64; 3]
+    ensures { result ≡ due_words due.now }
+{
+    [due.control, due.datagrams, due.streams]
 }
 
 /// Tells the counts of a session.
 #[unsafe(no_mangle)]
-pub extern "C" fn qs_get_info(alloc: Global, handle: &mut Handle, info: &mut RawInfo) -> i32
-    ensures { Calls handle.old.slot.value result handle.new.slot.value (info.new ≡ info.old) (λ s t. TellsInfo s result t info.new) }
+pub extern "C" fn qs_get_info_words(alloc: Global, handle: &mut Handle, words: &mut [u64]) -> i32
+    ensures { Calls handle.old.slot.value result handle.new.slot.value (words.new ≡ words.old) (λ s t. TellsInfo s result t words.old words.new) }
 {
     match take_out(alloc, handle) {
         None => CLOSED,
         Some(mut session) => {
-            let code = tell_info(&mut session, info);
+            let code = tell_info(&mut session, words);
             *handle = holding(session);
             code
         }
@@ -548,9 +601,33 @@ pub extern "C" fn qs_get_info(alloc: Global, handle: &mut Handle, info: &mut Raw
 }
 
 // The same, of a session.
-fn tell_info(session: &mut Session, info: &mut RawInfo) -> i32
-    ensures { TellsInfo session.old result session.new info.new }
+fn tell_info(session: &mut Session, words: &mut [u64]) -> i32
+    ensures { TellsInfo session.old result session.new words.old words.new }
 {
-    *info = info_of(session);
+    let info = info_of(session);
+    fill_words(words, &info_words(&info));
     OK
+}
+
+// The words of what a session tells of itself.
+fn info_words(info: &RawInfo) -> [u64; 15]
+    ensures { result ≡ info_words info.now }
+{
+    [
+        info.max_concurrent_bidi,
+        info.max_concurrent_uni,
+        info.max_remote_bidi,
+        info.max_remote_uni,
+        info.next_remote_bidi,
+        info.next_remote_uni,
+        info.remote_open_bidi,
+        info.remote_open_uni,
+        info.local_max_data,
+        info.data_received,
+        info.write_limit,
+        info.send_streams,
+        info.payloads,
+        info.can_send_stream_data,
+        info.has_pending,
+    ]
 }

@@ -14,3 +14,4 @@ mod payloads;
 mod peer;
 mod slot;
 mod version;
+mod words;

@@ -3,24 +3,16 @@
 ghost use Rattle.std.specs.Prelude.{◌≡◌, ◌==◌, not};
 ghost use Rattle.quic_streams_c.specs.Answers.{TellsDone, settle_code};
 ghost use Rattle.quic_streams_c.specs.Calls.{Calls};
-ghost use Rattle.quic_streams_c.specs.Payloads.{parts_at, raw_payload, TellsPayload, TellsPlace, EmitsRaw, EmitsLentRaw, AcksRaw, LosesRaw};
+ghost use Rattle.quic_streams_c.specs.Payloads.{parts_at, payload_words, TellsPayload, TellsPlace, EmitsRaw, EmitsLentRaw, AcksRaw, LosesRaw};
 
 use crate::codes::{ARGUMENT, CLOSED, DONE, NO_MEMORY, OK, code_of_settle};
 use crate::handle::{Handle, holding, take_out};
+use crate::words::fill_words;
 use quic_session::Session;
 use quic_session::emitting::{Emitted, Parts};
 use quic_session::settling::SettleError;
 use quic_values::OutOfMemory;
 use std::alloc::Global;
-
-/// What was written.
-#[derive(Clone, Copy)]
-#[repr(C)]
-pub struct RawPayload {
-    pub len: u64,
-    pub token: u64,
-    pub ends: u64,
-}
 
 // The parts of a number.
 pub(crate) fn parts_of(number: u32) -> Option<Parts>
@@ -39,20 +31,20 @@ pub(crate) fn parts_of(number: u32) -> Option<Parts>
 
 /// Writes what is to be sent.
 #[unsafe(no_mangle)]
-pub extern "C" fn qs_emit(
+pub extern "C" fn qs_emit_words(
     alloc: Global,
     handle: &mut Handle,
     parts: u32,
     fair: u32,
     out: &mut [u8],
-    payload: &mut RawPayload,
+    words: &mut [u64],
 ) -> i32
-    ensures { Calls handle.old.slot.value result handle.new.slot.value ((out.new ≡ out.old) × (payload.new ≡ payload.old)) (λ s t. EmitsRaw s parts fair out.old result t out.new payload.old payload.new) }
+    ensures { Calls handle.old.slot.value result handle.new.slot.value ((out.new ≡ out.old) × (words.new ≡ words.old)) (λ s t. EmitsRaw s parts fair out.old result t out.new words.old words.new) }
 {
     match take_out(alloc, handle) {
         None => CLOSED,
         Some(mut session) => {
-            let code = emit(&mut session, parts, fair, out, payload);
+            let code = emit(&mut session, parts, fair, out, words);
             *handle = holding(session);
             code
         }
@@ -60,39 +52,33 @@ pub extern "C" fn qs_emit(
 }
 
 // The same, of a session.
-fn emit(
-    session: &mut Session,
-    parts: u32,
-    fair: u32,
-    out: &mut [u8],
-    payload: &mut RawPayload,
-) -> i32
-    ensures { EmitsRaw session.old parts fair out.old result session.new out.new payload.old payload.new }
+fn emit(session: &mut Session, parts: u32, fair: u32, out: &mut [u8], words: &mut [u64]) -> i32
+    ensures { EmitsRaw session.old parts fair out.old result session.new out.new words.old words.new }
 {
     let Some(parts) = parts_of(parts) else {
         return ARGUMENT;
     };
     let fair = fair != 0;
-    tell_payload(&session.emit(out, parts, fair), payload)
+    tell_payload(&session.emit(out, parts, fair), words)
 }
 
 /// Writes what is to be sent into memory of the session, and tells where.
 #[unsafe(no_mangle)]
-pub extern "C" fn qs_emit_lent(
+pub extern "C" fn qs_emit_lent_words(
     alloc: Global,
     handle: &mut Handle,
     parts: u32,
     fair: u32,
     cap: usize,
     place: &mut *const u8,
-    payload: &mut RawPayload,
+    words: &mut [u64],
 ) -> i32
-    ensures { Calls handle.old.slot.value result handle.new.slot.value ((place.new ≡ place.old) × (payload.new ≡ payload.old)) (λ s t. EmitsLentRaw s parts fair cap result t place.old place.new payload.old payload.new) }
+    ensures { Calls handle.old.slot.value result handle.new.slot.value ((place.new ≡ place.old) × (words.new ≡ words.old)) (λ s t. EmitsLentRaw s parts fair cap result t place.old place.new words.old words.new) }
 {
     match take_out(alloc, handle) {
         None => CLOSED,
         Some(mut session) => {
-            let code = emit_lent(&mut session, parts, fair, cap, place, payload);
+            let code = emit_lent(&mut session, parts, fair, cap, place, words);
             *handle = holding(session);
             code
         }
@@ -106,16 +92,16 @@ fn emit_lent(
     fair: u32,
     cap: usize,
     place: &mut *const u8,
-    payload: &mut RawPayload,
+    words: &mut [u64],
 ) -> i32
-    ensures { EmitsLentRaw session.old parts fair cap result session.new place.old place.new payload.old payload.new }
+    ensures { EmitsLentRaw session.old parts fair cap result session.new place.old place.new words.old words.new }
 {
     let Some(asked) = parts_of(parts) else {
         return ARGUMENT;
     };
     let fair = fair != 0;
     let answer = session.emit_lent(cap, asked, fair);
-    tell_lent(&answer, session, place, payload)
+    tell_lent(&answer, session, place, words)
 }
 
 // What was written, and where it stands, or why nothing.
@@ -123,14 +109,14 @@ fn tell_lent(
     answer: &Result<Option<Emitted>, OutOfMemory>,
     session: &Session,
     place: &mut *const u8,
-    payload: &mut RawPayload,
+    words: &mut [u64],
 ) -> i32
-    ensures tells { TellsPayload answer.now result payload.old payload.new }
+    ensures tells { TellsPayload answer.now result words.old words.new }
     ensures place { TellsPlace answer.now session.now place.old place.new }
 {
     match answer {
         Ok(Some(emitted)) => {
-            *payload = raw_payload(emitted);
+            fill_words(words, &payload_words(emitted));
             *place = session.lent();
             OK
         }
@@ -140,15 +126,12 @@ fn tell_lent(
 }
 
 // What was written, or why nothing.
-pub(crate) fn tell_payload(
-    answer: &Result<Option<Emitted>, OutOfMemory>,
-    payload: &mut RawPayload,
-) -> i32
-    ensures { TellsPayload answer.now result payload.old payload.new }
+pub(crate) fn tell_payload(answer: &Result<Option<Emitted>, OutOfMemory>, words: &mut [u64]) -> i32
+    ensures { TellsPayload answer.now result words.old words.new }
 {
     match answer {
         Ok(Some(emitted)) => {
-            *payload = raw_payload(emitted);
+            fill_words(words, &payload_words(emitted));
             OK
         }
         Ok(None) => DONE,
@@ -156,15 +139,12 @@ pub(crate) fn tell_payload(
     }
 }
 
-// A payload in numbers.
-fn raw_payload(emitted: &Emitted) -> RawPayload
-    ensures { result ≡ raw_payload emitted.now }
+// The words of a payload.
+fn payload_words(emitted: &Emitted) -> [u64; 3]
+    ensures { result ≡ payload_words emitted.now }
 {
-    RawPayload {
-        len: emitted.len as u64,
-        token: emitted.token,
-        ends: if emitted.ends { 1 } else { 0 },
-    }
+    let ends = if emitted.ends { 1 } else { 0 };
+    [emitted.len as u64, emitted.token, ends]
 }
 
 /// A payload was acknowledged.
