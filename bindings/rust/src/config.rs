@@ -1,10 +1,6 @@
 use crate::varint::VarInt;
 use quic_streams_sys as sys;
 
-// The struct has 64 bytes.
-#[allow(clippy::cast_possible_truncation)]
-const SIZE: u32 = std::mem::size_of::<sys::qs_config>() as u32;
-
 /// The configuration of an endpoint. The host advertises the same numbers in its transport parameters.
 ///
 /// ```
@@ -59,8 +55,7 @@ impl Config {
 
     pub(crate) fn raw(&self, side: u32) -> sys::qs_config {
         sys::qs_config {
-            size: SIZE,
-            side,
+            side: u64::from(side),
             max_remote_uni: self.max_remote_uni.into_inner(),
             max_remote_bidi: self.max_remote_bi.into_inner(),
             send_window: self.send_window,

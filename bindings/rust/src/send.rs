@@ -173,10 +173,7 @@ impl SendStream<'_> {
     ///
     /// [`StreamError::ClosedStream`].
     pub fn stopped(&self) -> Result<Option<VarInt>, StreamError> {
-        let mut code = 0;
-        let (conn, id) = (self.state.handle(), self.id.into());
-        // SAFETY: the handle is this session's, and `code` is a local of its own.
-        sent_code(unsafe { sys::qs_stream_stopped(conn, id, &mut code) }, code)
+        self.state.stopped(self.id)
     }
 
     /// Sets the priority of the stream: streams of a higher number are sent first. A new stream has priority 0.
@@ -196,10 +193,33 @@ impl SendStream<'_> {
     ///
     /// [`StreamError::ClosedStream`].
     pub fn priority(&self) -> Result<i32, StreamError> {
+        self.state.priority(self.id)
+    }
+}
+
+/// Questions about the send side of a stream, which need no `&mut`.
+impl StreamsState {
+    /// The code of the peer's STOP_SENDING for a stream, if it sent one.
+    ///
+    /// # Errors
+    ///
+    /// [`StreamError::ClosedStream`].
+    pub fn stopped(&self, id: StreamId) -> Result<Option<VarInt>, StreamError> {
+        let mut code = 0;
+        // SAFETY: the handle is this session's, and `code` is a local of its own.
+        let result = unsafe { sys::qs_stream_stopped(self.handle(), id.into(), &mut code) };
+        sent_code(result, code)
+    }
+
+    /// The priority of a stream that was set last.
+    ///
+    /// # Errors
+    ///
+    /// [`StreamError::ClosedStream`].
+    pub fn priority(&self, id: StreamId) -> Result<i32, StreamError> {
         let mut priority = 0;
-        let (conn, id) = (self.state.handle(), self.id.into());
         // SAFETY: the handle is this session's, and `priority` is a local of its own.
-        done(unsafe { sys::qs_stream_priority(conn, id, &mut priority) })?;
+        done(unsafe { sys::qs_stream_priority(self.handle(), id.into(), &mut priority) })?;
         Ok(priority)
     }
 }

@@ -1,6 +1,7 @@
 use quic_streams_sys as sys;
 use std::error::Error;
 use std::fmt;
+use std::io;
 
 /// The error code of a CONNECTION_CLOSE frame of type 0x1c (RFC 9000 section 20.1).
 #[derive(Clone, Copy, PartialEq, Eq, Hash)]
@@ -40,6 +41,14 @@ codes! {
     KEY_UPDATE_ERROR = 0xe: "The peer failed to update keys.",
     AEAD_LIMIT_REACHED = 0xf: "The limit of use of the keys is reached.",
     NO_VIABLE_PATH = 0x10: "The network path cannot carry QUIC.",
+}
+
+impl TransportErrorCode {
+    /// The code of a TLS alert (CRYPTO_ERROR, 0x100 to 0x1ff).
+    #[must_use]
+    pub const fn crypto(alert: u8) -> Self {
+        Self(0x100 | alert as u64)
+    }
 }
 
 impl From<TransportErrorCode> for u64 {
@@ -102,3 +111,9 @@ impl fmt::Display for TransportError {
 }
 
 impl Error for TransportError {}
+
+impl From<TransportError> for io::Error {
+    fn from(error: TransportError) -> Self {
+        Self::new(io::ErrorKind::InvalidData, error)
+    }
+}

@@ -81,6 +81,23 @@ impl TryFrom<u64> for VarInt {
     }
 }
 
+impl TryFrom<usize> for VarInt {
+    type Error = VarIntBoundsExceeded;
+
+    fn try_from(number: usize) -> Result<Self, Self::Error> {
+        Self::from_u64(number as u64)
+    }
+}
+
+impl TryFrom<u128> for VarInt {
+    type Error = VarIntBoundsExceeded;
+
+    fn try_from(number: u128) -> Result<Self, Self::Error> {
+        let number = u64::try_from(number).map_err(|_| VarIntBoundsExceeded)?;
+        Self::from_u64(number)
+    }
+}
+
 impl fmt::Debug for VarInt {
     fn fmt(&self, f: &mut fmt::Formatter<'_>) -> fmt::Result {
         self.0.fmt(f)

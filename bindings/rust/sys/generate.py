@@ -4,8 +4,8 @@
     python3 bindings/rust/sys/generate.py           writes the file
     python3 bindings/rust/sys/generate.py --check   fails if the file is not what the header says
 
-The header is read by its own forms: anonymous enums, `typedef struct`, `#define QS_NAME number`, and declarations that begin
-with QS_API. Layouts are those of x86-64 (System V), and are asserted in the file at compile time.
+The header is read by its own forms: anonymous enums, `typedef struct`, `#define QS_NAME number`, declarations that begin
+with QS_API, and inline functions that pass a struct to one of these by its words. Layouts are those of x86-64 (System V), and are asserted in the file at compile time.
 """
 import pathlib
 import re
@@ -53,6 +53,9 @@ class Header:
         self.structs = {name: self.fields(body) for name, body in found}
         calls = re.findall(r"^QS_API (\w+) (qs_\w+)\((.*?)\);", bare, flags=re.M | re.S)
         self.calls = {name: (result, self.parameters(arguments)) for result, name, arguments in calls}
+        calls = re.findall(r"^static inline (\w+) (qs_\w+)\((.*?)\) \{\s*return \2_words\((.*?)\);\s*\}", bare, flags=re.M | re.S)
+        self.by_words = {name: (result, self.parameters(arguments), [" ".join(it.split()) for it in passed.split(",")])
+                         for result, name, arguments, passed in calls}
 
     @staticmethod
     def parameters(listed):
@@ -106,6 +109,7 @@ def rust_doc(text, indent=""):
     text = re.sub(r"(?<![\w`\[])((?:QS|qs)_\w+)(?![\w`])", r"`\1`", text)
     text = re.sub(r"^ +(?=\S)", "  ", text, flags=re.M)
     text = re.sub(r"(?<=\n)(?=- \w+:)", "", text)
+    text = re.sub(r"(\n(?:- |  )[^\n]*\n)(?=Parameters and return values)", r"\1\n", text)
     text = re.sub(r"\A(?:(?!- )[^\n]+\n)+(?=- )", lambda it: it.group() + "\n", text)
     return "".join(f"{indent}///{' ' + line if line else ''}\n" for line in text.splitlines())
 
@@ -142,7 +146,24 @@ def calls(header):
         listed = ", ".join(f"{it.name}: {it.type}" for it in arguments)
         answer = "" if result == "void" else f" -> {NUMBERS[result][0]}"
         yield rust_doc(header.doc(f" {name}("), "    ") + f"    pub fn {name}({listed}){answer};\n"
-    yield "}\n"
+    yield "}\n\n"
+    for name, (result, arguments, passed) in header.by_words.items():
+        listed = ", ".join(f"{it.name}: {it.type}" for it in arguments)
+        words = ", ".join(in_rust(it, arguments) for it in passed)
+        yield f"{rust_doc(header.doc(f' {name}('))}///\n/// # Safety\n///\n/// Pointers are valid, as the header says.\n#[inline]\n"
+        yield f"pub unsafe fn {name}({listed}) -> {NUMBERS[result][0]} {{\n    {name}_words({words})\n}}\n\n"
+
+
+def in_rust(word, arguments):
+    """What an inline function passes on: a parameter, a struct as its words, or how many words that has."""
+    struct = re.fullmatch(r"\((?:const )?uint64_t \*\)(\w+)|&(\w+)->\w+", word)
+    if struct:
+        return f"{struct.group(1) or struct.group(2)}.cast()"
+    size = re.fullmatch(r"sizeof \*(\w+) / 8", word)
+    if size:
+        kind = next(it.type for it in arguments if it.name == size.group(1))
+        return f"size_of::<{kind.split()[-1]}>() / 8"
+    return word
 
 
 def tests(header):

@@ -6,6 +6,8 @@ mod stand_in;
 use quic_streams::*;
 use quic_streams_sys as sys;
 use stand_in::{calls, open, will, will_be, will_write};
+use std::error::Error;
+use std::io;
 
 const ID: StreamId = StreamId::new(Side::Server, Dir::Uni, 5); // 23
 
@@ -48,7 +50,7 @@ fn an_endpoint_is_opened_with_its_configuration_and_freed_once() {
     for (side, number) in [(Side::Client, 0), (Side::Server, 1)] {
         let made = StreamsState::new(side, &config).unwrap();
         let wanted = format!(
-            "conn_open qs_config {{ size: 64, side: {number}, {fields}, datagram_receive: 6, datagram_send: 7 }}"
+            "conn_open qs_config {{ side: {number}, {fields}, datagram_receive: 6, datagram_send: 7 }}"
         );
         assert_eq!(calls(), [wanted]);
         assert_eq!(open(), (1, 0));
@@ -438,6 +440,23 @@ fn a_reason_has_at_most_eighty_bytes() {
 }
 
 #[test]
+fn an_error_of_the_peer_becomes_an_io_error() {
+    let mut state = endpoint();
+    will_write(sys::QS_ERR_PROTOCOL, &[4], b"why");
+    let error = state.receive(b"").unwrap_err();
+    let cause = match &error {
+        ReceiveError::Transport(cause) => cause.clone(),
+        other => panic!("{other}"),
+    };
+    assert_eq!(error.source().unwrap().to_string(), cause.to_string());
+    for of in [io::Error::from(error), io::Error::from(cause)] {
+        assert_eq!(of.kind(), io::ErrorKind::InvalidData);
+        assert!(of.to_string().ends_with("STREAM_LIMIT_ERROR: why"));
+    }
+    calls();
+}
+
+#[test]
 fn single_frames_pass_their_fields() {
     let mut state = endpoint();
     state.on_stream(ID, 1, b"a", true, 2).unwrap();
@@ -574,6 +593,8 @@ fn other_calls_on_streams_pass_their_numbers() {
         (sys::QS_ERR_NO_STREAM, Err(StreamError::ClosedStream)),
     ];
     results(&priority, &[7], |state| state.send_stream(ID).priority());
+    results(&priority, &[7], |state| state.priority(ID));
+    results(&asked, &[6], |state| state.stopped(ID));
     let mut state = endpoint();
     state.send_stream(ID).reset(code(3)).unwrap();
     state.send_stream(ID).set_priority(-4).unwrap();

@@ -1,5 +1,7 @@
 //! Frames that no honest peer sends: what each is answered, and that a refused one leaves all that can be asked as it was.
 
+#![cfg(not(miri))] // it calls the library
+
 mod common;
 
 use common::{control_frames, events, frames, limits, stream_id, varint, Result};

@@ -1,5 +1,7 @@
 //! What reads of a stream give, and the credit that they tell.
 
+#![cfg(not(miri))] // it calls the library
+
 mod one_end;
 
 use one_end::steps::take_in;
@@ -18,7 +20,7 @@ fn as_many_chunks_are_given_as_are_asked_for() -> Result<()> {
         let mut reader = stream.chunks(true);
         let answers: Vec<_> = (0..9).map(|_| reader.next(2)).collect();
         let chunks: Vec<_> = answers.iter().flatten().flatten().collect();
-        assert_eq!(chunks.len(), size.div_ceil(2).min(9), "{size} bytes");
+        assert_eq!(chunks.len(), ((size + 1) / 2).min(9), "{size} bytes");
         let bytes: Vec<u8> = chunks.iter().flat_map(|it| it.bytes.clone()).collect();
         assert_eq!(bytes, pattern(offset, size.min(18)), "{size} bytes");
         let more = answers.last() != Some(&Err(ReadError::Blocked));

@@ -1,5 +1,7 @@
 //! What one end takes of its peer, and what it refuses.
 
+#![cfg(not(miri))] // it calls the library
+
 mod one_end;
 
 use one_end::steps::*;

@@ -1,5 +1,7 @@
 //! What becomes of whole payloads that were acknowledged or lost.
 
+#![cfg(not(miri))] // it calls the library
+
 mod one_end;
 
 use one_end::*;

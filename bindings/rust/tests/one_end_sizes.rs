@@ -1,5 +1,7 @@
 //! Bytes, streams, chunks and control frames of one end, in numbers on both sides of powers of two.
 
+#![cfg(not(miri))] // it calls the library
+
 mod one_end;
 
 use one_end::steps::{read, take_in, Given, Last, Reads};

@@ -1,5 +1,7 @@
 //! Control frames that were lost join those that wait.
 
+#![cfg(not(miri))] // it calls the library
+
 mod one_end;
 
 use one_end::*;

@@ -1,5 +1,7 @@
 //! How the pieces of a stream are put together: which chunks are read, in order and as they come.
 
+#![cfg(not(miri))] // it calls the library
+
 mod one_end;
 mod pieces;
 

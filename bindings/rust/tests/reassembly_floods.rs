@@ -1,5 +1,7 @@
 //! Very many pieces of a stream: too many, too much memory, repeats, and pieces in any order.
 
+#![cfg(not(miri))] // it calls the library
+
 mod one_end;
 mod pieces;
 

@@ -1,5 +1,7 @@
 //! The receive half of a stream: what it takes and counts, and what it gives.
 
+#![cfg(not(miri))] // it calls the library
+
 mod one_end;
 
 use one_end::steps::*;

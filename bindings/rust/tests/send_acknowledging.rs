@@ -1,5 +1,7 @@
 //! Acknowledgements and losses of what an end sent.
 
+#![cfg(not(miri))] // it calls the library
+
 mod sending;
 
 use quic_streams::{Dir, Side};

@@ -1,5 +1,7 @@
 //! The send half of a stream, and what is kept of its bytes.
 
+#![cfg(not(miri))] // it calls the library
+
 mod sending;
 
 use quic_streams::{Dir, FinishError, Side, WriteError};

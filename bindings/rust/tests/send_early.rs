@@ -1,5 +1,7 @@
 //! An early start (RFC 9001 section 4.6) that is rejected, or sent again.
 
+#![cfg(not(miri))] // it calls the library
+
 mod sending;
 
 use quic_streams::{Dir, Side, StreamError, WriteError};

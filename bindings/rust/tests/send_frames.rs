@@ -1,5 +1,7 @@
 //! The frames that an end writes, and when data can be sent.
 
+#![cfg(not(miri))] // it calls the library
+
 mod sending;
 
 use quic_streams::{Dir, Side, WriteError};

@@ -1,5 +1,7 @@
 //! The send halves of all streams: what writes, limits, reports and frames do to them.
 
+#![cfg(not(miri))] // it calls the library
+
 mod sending;
 
 use quic_streams::{Dir, Side, StreamError, WriteError};

@@ -1,5 +1,7 @@
 //! What the limits of the peer let an end write, and what the limits of an end let its peer open.
 
+#![cfg(not(miri))] // it calls the library
+
 mod sending;
 
 use quic_streams::{Dir, Side, WriteError};

@@ -1,6 +1,8 @@
 //! What lack of memory leaves as it was, and that the same call then succeeds. Each session runs once with ample memory, and
 //! once more with each allocation of the library refused.
 
+#![cfg(not(miri))] // it calls the library
+
 // The tests need a newer Rust than the crate.
 #![allow(clippy::incompatible_msrv)]
 // The allocator stands on the one of glibc.
@@ -21,6 +23,7 @@ mod memory {
     use std::cell::Cell;
     use std::ffi::c_void;
     use std::ptr::null_mut;
+    use std::thread::LocalKey;
 
     thread_local! {
         // Whether requests are counted now, how many there were, and which one is refused.
@@ -34,12 +37,16 @@ mod memory {
         fn __libc_realloc(at: *mut c_void, size: usize) -> *mut c_void;
     }
 
+    fn set<T>(key: &'static LocalKey<Cell<T>>, value: T) {
+        key.with(|cell| cell.set(value));
+    }
+
     fn refuses() -> bool {
-        if !COUNTS.get() {
+        if !COUNTS.with(Cell::get) {
             return false;
         }
-        ASKED.set(ASKED.get() + 1);
-        ASKED.get() == REFUSED.get()
+        set(&ASKED, asked() + 1);
+        asked() == REFUSED.with(Cell::get)
     }
 
     #[no_mangle]
@@ -60,20 +67,20 @@ mod memory {
 
     /// Counts from 1 on again. The request of this number is refused; 0 is none.
     pub fn begin(refused: u64) {
-        ASKED.set(0);
-        REFUSED.set(refused);
+        set(&ASKED, 0);
+        set(&REFUSED, refused);
     }
 
     /// How many requests were counted.
     pub fn asked() -> u64 {
-        ASKED.get()
+        ASKED.with(Cell::get)
     }
 
     /// Counts the requests of a call of the library.
     pub fn counted<T>(call: impl FnOnce() -> T) -> T {
-        COUNTS.set(true);
+        set(&COUNTS, true);
         let answer = call();
-        COUNTS.set(false);
+        set(&COUNTS, false);
         answer
     }
 }
@@ -255,9 +262,8 @@ fn send_and_ack(end: &mut End) -> Result<()> {
     make(end, |end| end.0.retransmit_all_for_0rtt())?;
     let again = send(end, STREAMS, ONE_FRAME, &[OF_SIX, OF_ZERO, OF_TWO]);
     assert!(!end.can_send_data());
-    let [of_six, _, of_two] = again[..] else {
-        panic!("{} payloads", again.len());
-    };
+    assert_eq!(again.len(), 3);
+    let (of_six, of_two) = (again[0], again[2]);
     make(end, |end| end.0.lost(of_two))?;
     let of_two = send(end, STREAMS, 100, &[OF_TWO]);
     end.0.set_send_window(10);

@@ -1,5 +1,7 @@
 //! Streams that frames open, and what the handle of a stream tells.
 
+#![cfg(not(miri))] // it calls the library
+
 mod sending;
 
 use quic_streams::{Dir, FinishError, Side, StreamError, WriteError};

@@ -11,6 +11,12 @@ fn a_varint_is_below_2_to_the_62() {
     assert_eq!(VarInt::MAX.into_inner(), 0x3fff_ffff_ffff_ffff);
     assert_eq!(VarInt::from_u64(VarInt::MAX.into()), Ok(VarInt::MAX));
     assert_eq!(VarInt::try_from(1u64 << 62), Err(VarIntBoundsExceeded));
+    assert_eq!(VarInt::try_from(7usize), Ok(VarInt::from_u32(7)));
+    assert_eq!(VarInt::try_from(1usize << 62), Err(VarIntBoundsExceeded));
+    assert_eq!(VarInt::try_from(7u128), Ok(VarInt::from_u32(7)));
+    for number in [1u128 << 62, 1 << 64, u128::MAX] {
+        assert_eq!(VarInt::try_from(number), Err(VarIntBoundsExceeded));
+    }
     assert_eq!(VarInt::from(7u8), VarInt::from(7u16));
     assert_eq!(VarInt::from(7u32), VarInt::from_u32(7));
     assert_eq!(format!("{0} {0:?}", VarInt::from_u32(7)), "7 7");
@@ -132,6 +138,10 @@ fn codes_have_their_numbers_and_names() {
             (name.into(), name.into())
         );
     }
+    // handshake_failure, alert 40 (RFC 9001 section 4.8, RFC 8446 section 6)
+    let alert = TransportErrorCode::crypto(40);
+    assert_eq!(u64::from(alert), 0x128);
+    assert_eq!(alert.to_string(), "error code 0x128");
 }
 
 /// The kinds of io::Error that errors become.

@@ -112,7 +112,7 @@ impl qs_conn {
 
 const _: () = assert!(size_of::<qs_conn>() == 16 && align_of::<qs_conn>() == 8);
 
-/// The configuration of a session. Set size to sizeof(`qs_config`).
+/// The configuration of a session.
 ///
 /// The host advertises the same numbers in its transport parameters (RFC 9000
 /// section 18.2, RFC 9221 section 3): max_remote_uni as initial_max_streams_uni,
@@ -130,8 +130,7 @@ const _: () = assert!(size_of::<qs_conn>() == 16 && align_of::<qs_conn>() == 8);
 #[derive(Clone, Copy, Debug)]
 #[repr(C)]
 pub struct qs_config {
-    pub size: u32,
-    pub side: u32,
+    pub side: u64,
     pub max_remote_uni: u64,
     pub max_remote_bidi: u64,
     pub send_window: u64,
@@ -144,7 +143,6 @@ pub struct qs_config {
 impl qs_config {
     /// All zero bytes.
     pub const ZERO: Self = Self {
-        size: 0,
         side: 0,
         max_remote_uni: 0,
         max_remote_bidi: 0,
@@ -159,7 +157,9 @@ impl qs_config {
 const _: () = assert!(size_of::<qs_config>() == 64 && align_of::<qs_config>() == 8);
 
 /// The limits in the peer's transport parameters (RFC 9000 section 18.2), by
-/// their names there, each below 2^62. An absent parameter is 0.
+/// their names there, each below 2^62, and a limit of datagrams, which is any
+/// number. An absent parameter is 0; max_datagram is `QS_NONE` if the peer's
+/// max_datagram_frame_size is absent or 0 (RFC 9221 section 3).
 #[derive(Clone, Copy, Debug)]
 #[repr(C)]
 pub struct qs_peer_limits {
@@ -367,16 +367,8 @@ extern "C" {
     /// The version of the library that runs, as `QS_VERSION_NUM` is that of this
     /// header. If major or minor version differ, use another library.
     pub fn qs_version() -> u32;
-    /// Opens a session in a closed handle.
-    ///
-    /// - conn: a closed handle; left unchanged by an error
-    /// - config: read; not needed after the call
-    /// - `QS_OK`: the handle is open
-    /// - `QS_ERR_IN_USE`: the handle was open already
-    /// - `QS_ERR_ARGUMENT`: config->size is not sizeof(`qs_config`), or a number is
-    ///   above its bound
-    /// - `QS_ERR_NOMEM`: out of memory
-    pub fn qs_conn_open(conn: *mut qs_conn, config: *const qs_config) -> i32;
+    /// What `qs_conn_open` calls.
+    pub fn qs_conn_open_words(conn: *mut qs_conn, words: *const u64, count: usize) -> i32;
     /// Frees the session with all its memory, and closes the handle. A closed
     /// handle stays closed.
     pub fn qs_conn_free(conn: *mut qs_conn);
@@ -390,17 +382,8 @@ extern "C" {
     ///
     /// - `QS_OK`: the session is closing
     pub fn qs_conn_close(conn: *mut qs_conn) -> i32;
-    /// Sets the peer's limits. Before, no stream can be opened and nothing can be
-    /// written. For 0-RTT, call it first with the remembered limits. Each open
-    /// stream of this endpoint gets its new limit, and `QS_EVENT_WRITABLE` is raised
-    /// if it was blocked.
-    ///
-    /// - limits: read; not needed after the call
-    /// - `QS_OK`: the limits are set
-    /// - `QS_ERR_ARGUMENT`: a stream limit is above 2^60, or another is 2^62 or
-    ///   more: close the connection with TRANSPORT_PARAMETER_ERROR
-    /// - `QS_ERR_NOMEM`: out of memory; never if no stream was opened here
-    pub fn qs_set_peer_limits(conn: *mut qs_conn, limits: *const qs_peer_limits) -> i32;
+    /// What `qs_set_peer_limits` calls.
+    pub fn qs_set_peer_limits_words(conn: *mut qs_conn, words: *const u64, count: usize) -> i32;
     /// The server rejected the 0-RTT data of a client (RFC 9001 section 4.6.2).
     /// Discards the client's streams with all sent and pending data, and all tokens
     /// of earlier payloads. Set the peer's limits next.
@@ -579,10 +562,22 @@ extern "C" {
     ) -> i32;
     /// Reads the next bytes of a stream in order as `qs_stream_read_many` does, but
     /// copies none: slices show where they are in memory of the session, one for
-    /// each frame. They are valid until the next call on the handle. slices has room
-    /// for max of them, at most 64 are written, and *count says how many. Where
-    /// `qs_stream_read_many` names cap, it is max here.
-    /// Parameters and return values are those of `qs_stream_read_many`.
+    /// each frame. They are valid until the next call on the handle.
+    ///
+    /// - slices: room for max of them; the first *count are written, at
+    ///   most 64
+    /// - count: slices written, may be 0; 0 with `QS_ERR_RESET` and
+    ///   `QS_ERR_NOMEM`; not written with the errors after these
+    /// - offset: of the first byte, written only if *count is above 0
+    /// - app_code: the peer's error code, with `QS_ERR_RESET` only
+    /// - `QS_OK`: more may be available: call again
+    /// - `QS_DONE`: nothing more is available now; `QS_EVENT_READABLE` follows
+    /// - `QS_END`: nothing more follows, and the receive side is closed
+    /// - `QS_ERR_RESET`: the peer reset the stream; the receive side is closed
+    /// - `QS_ERR_NOMEM`: out of memory; nothing was read
+    /// - `QS_ERR_TOO_SMALL`: max is 0
+    /// - `QS_ERR_NO_STREAM`: the receive side is closed or never existed
+    /// - `QS_ERR_ORDER`: the stream was read unordered before
     pub fn qs_stream_read_lent(
         conn: *mut qs_conn,
         id: u64,
@@ -614,11 +609,8 @@ extern "C" {
     /// - `QS_OK`: *event is set
     /// - `QS_DONE`: there is none
     pub fn qs_poll(conn: *mut qs_conn, event: *mut qs_event) -> i32;
-    /// Reads the state of the session.
-    ///
-    /// - info: written with `QS_OK` only
-    /// - `QS_OK`: *info is set
-    pub fn qs_get_info(conn: *mut qs_conn, info: *mut qs_info) -> i32;
+    /// What `qs_get_info` calls.
+    pub fn qs_get_info_words(conn: *mut qs_conn, words: *mut u64, count: usize) -> i32;
     /// Makes a buffer at least size bytes long, with zeros after its bytes. A
     /// closed buffer is opened.
     ///
@@ -676,10 +668,19 @@ extern "C" {
     /// Call `qs_buffer_reserve` before the next packet. Otherwise the data is copied,
     /// and the buffer stays as it is.
     ///
-    /// A closed buffer is `QS_ERR_CLOSED`, a len above its length `QS_ERR_ARGUMENT`. If
-    /// a payload was not copied, *next is 0 after an error, and after `QS_ERR_NOMEM`
-    /// the buffer may have lost the payload: treat the packet as not received.
-    /// Parameters and return values are those of `qs_receive`.
+    /// A closed buffer is `QS_ERR_CLOSED`. If a payload was not copied, *next is 0
+    /// after an error, and after `QS_ERR_NOMEM` the buffer may have lost the payload:
+    /// treat the packet as not received.
+    /// - buffer: an open buffer
+    /// - len: length of the payload
+    /// - next: as with `qs_receive`
+    /// - error: written with `QS_ERR_PROTOCOL` and `QS_ERR_MALFORMED` only
+    /// - `QS_OK`: everything was processed; *next is len
+    /// - `QS_OTHER_FRAME`: the host processes the frame at *next
+    /// - `QS_ERR_NOMEM`: the frames before *next were processed
+    /// - `QS_ERR_PROTOCOL`: close the connection with *error, as with `qs_receive`
+    /// - `QS_ERR_MALFORMED`: close the connection with *error, as with `qs_receive`
+    /// - `QS_ERR_ARGUMENT`: len is above the buffer's length, or *next above len
     pub fn qs_receive_buffer(
         conn: *mut qs_conn,
         buffer: *mut qs_buffer,
@@ -699,7 +700,8 @@ extern "C" {
     ///   if payload_len is less.
     /// - error: written with `QS_ERR_PROTOCOL` only
     /// - `QS_OK`: the frame was processed
-    /// - `QS_ERR_PROTOCOL`: close the connection with *error
+    /// - `QS_ERR_PROTOCOL`: close the connection with *error. If the reassembly
+    ///   limit is exceeded (INTERNAL_ERROR), the data stays buffered.
     /// - `QS_ERR_NOMEM`: out of memory; the frame was not processed
     pub fn qs_on_stream(
         conn: *mut qs_conn,
@@ -711,8 +713,7 @@ extern "C" {
         payload_len: usize,
         error: *mut qs_error,
     ) -> i32;
-    /// Each processes one frame (RFC 9000 section 19, RFC 9221 section 4). A
-    /// STOP_SENDING frame is rejected where `qs_receive` rejects it.
+    /// Processes a RESET_STREAM frame (RFC 9000 section 19.4).
     ///
     /// - error: written with `QS_ERR_PROTOCOL` only
     /// - `QS_OK`: the frame was processed
@@ -725,114 +726,78 @@ extern "C" {
         final_size: u64,
         error: *mut qs_error,
     ) -> i32;
-    /// Each processes one frame (RFC 9000 section 19, RFC 9221 section 4). A
-    /// STOP_SENDING frame is rejected where `qs_receive` rejects it.
-    ///
-    /// - error: written with `QS_ERR_PROTOCOL` only
-    /// - `QS_OK`: the frame was processed
-    /// - `QS_ERR_PROTOCOL`: close the connection with *error
-    /// - `QS_ERR_NOMEM`: out of memory; the frame was not processed
+    /// Processes a STOP_SENDING frame (RFC 9000 section 19.5), and rejects it where
+    /// `qs_receive` does.
+    /// Parameters and return values are those of `qs_on_reset_stream`.
     pub fn qs_on_stop_sending(
         conn: *mut qs_conn,
         id: u64,
         app_code: u64,
         error: *mut qs_error,
     ) -> i32;
-    /// Each processes one frame (RFC 9000 section 19, RFC 9221 section 4). A
-    /// STOP_SENDING frame is rejected where `qs_receive` rejects it.
-    ///
-    /// - error: written with `QS_ERR_PROTOCOL` only
-    /// - `QS_OK`: the frame was processed
-    /// - `QS_ERR_PROTOCOL`: close the connection with *error
-    /// - `QS_ERR_NOMEM`: out of memory; the frame was not processed
+    /// Processes a MAX_DATA frame (RFC 9000 section 19.9).
+    /// Parameters and return values are those of `qs_on_reset_stream`.
     pub fn qs_on_max_data(conn: *mut qs_conn, limit: u64, error: *mut qs_error) -> i32;
-    /// Each processes one frame (RFC 9000 section 19, RFC 9221 section 4). A
-    /// STOP_SENDING frame is rejected where `qs_receive` rejects it.
-    ///
-    /// - error: written with `QS_ERR_PROTOCOL` only
-    /// - `QS_OK`: the frame was processed
-    /// - `QS_ERR_PROTOCOL`: close the connection with *error
-    /// - `QS_ERR_NOMEM`: out of memory; the frame was not processed
+    /// Processes a MAX_STREAM_DATA frame (RFC 9000 section 19.10).
+    /// Parameters and return values are those of `qs_on_reset_stream`.
     pub fn qs_on_max_stream_data(
         conn: *mut qs_conn,
         id: u64,
         limit: u64,
         error: *mut qs_error,
     ) -> i32;
-    /// Each processes one frame (RFC 9000 section 19, RFC 9221 section 4). A
-    /// STOP_SENDING frame is rejected where `qs_receive` rejects it.
+    /// Processes a MAX_STREAMS frame (RFC 9000 section 19.11).
     ///
-    /// - error: written with `QS_ERR_PROTOCOL` only
-    /// - `QS_OK`: the frame was processed
-    /// - `QS_ERR_PROTOCOL`: close the connection with *error
-    /// - `QS_ERR_NOMEM`: out of memory; the frame was not processed
+    /// - dir: `QS_BIDI` or `QS_UNI`
+    /// - count: how many streams may be opened; above 2^60 the result is
+    ///   `QS_ERR_PROTOCOL` with FRAME_ENCODING_ERROR
+    ///
+    /// Parameters and return values are those of `qs_on_reset_stream`.
     pub fn qs_on_max_streams(conn: *mut qs_conn, dir: u32, count: u64, error: *mut qs_error)
         -> i32;
-    /// Each processes one frame (RFC 9000 section 19, RFC 9221 section 4). A
-    /// STOP_SENDING frame is rejected where `qs_receive` rejects it.
+    /// Processes a DATAGRAM frame (RFC 9221 section 4).
     ///
-    /// - error: written with `QS_ERR_PROTOCOL` only
-    /// - `QS_OK`: the frame was processed
-    /// - `QS_ERR_PROTOCOL`: close the connection with *error
-    /// - `QS_ERR_NOMEM`: out of memory; the frame was not processed
+    /// - data: len bytes; may be NULL if len is 0
+    ///
+    /// Parameters and return values are those of `qs_on_reset_stream`.
     pub fn qs_on_datagram(
         conn: *mut qs_conn,
         data: *const u8,
         len: usize,
         error: *mut qs_error,
     ) -> i32;
-    /// Writes pending frames, at most cap bytes, of the named parts. A host that
-    /// lays out its packets itself calls it for single parts: each call makes a
-    /// payload of its own, and a packet may have several.
-    ///
-    /// - parts: `QS_CONTROL`, `QS_DATAGRAMS` and `QS_STREAMS`, or'ed
-    /// - fair: not 0: streams of one priority take turns; 0: one goes on until
-    ///   it has nothing left
-    /// - data: at least cap bytes; the first payload->len are written
-    /// - cap: at least `QS_MIN_ROOM`, or pending frames may not fit
-    /// - payload: written with `QS_OK` only
-    /// - `QS_OK`: *payload is set. More may be pending: call again for the next
-    ///   packet, or for the rest of this one. If memory runs out after some
-    ///   frames, these are the payload.
-    /// - `QS_DONE`: no pending frame of these parts fits into cap bytes
-    /// - `QS_ERR_NOMEM`: out of memory; nothing was written
-    pub fn qs_emit(
+    /// What `qs_emit` calls.
+    pub fn qs_emit_words(
         conn: *mut qs_conn,
         parts: u32,
         fair: u32,
         data: *mut u8,
         cap: usize,
-        payload: *mut qs_payload,
+        words: *mut u64,
+        count: usize,
     ) -> i32;
-    /// Writes pending frames as `qs_emit` does, into memory of the session, where
-    /// they are valid until the next call on the handle. *data is set to where they
-    /// begin, with `QS_OK` only.
-    /// Parameters and return values are those of `qs_emit`.
-    pub fn qs_emit_lent(
+    /// What `qs_emit_lent` calls.
+    pub fn qs_emit_lent_words(
         conn: *mut qs_conn,
         parts: u32,
         fair: u32,
         cap: usize,
         data: *mut *const u8,
-        payload: *mut qs_payload,
+        words: *mut u64,
+        count: usize,
     ) -> i32;
-    /// Writes pending frames as `qs_emit` does, into an open buffer; a closed one is
-    /// `QS_ERR_CLOSED`. With `QS_OK` the buffer has the payload alone, and its len is
-    /// payload->len; else its bytes stay.
-    /// Parameters and return values are those of `qs_emit`.
-    pub fn qs_emit_buffer(
+    /// What `qs_emit_buffer` calls.
+    pub fn qs_emit_buffer_words(
         conn: *mut qs_conn,
         parts: u32,
         fair: u32,
         cap: usize,
         buffer: *mut qs_buffer,
-        payload: *mut qs_payload,
+        words: *mut u64,
+        count: usize,
     ) -> i32;
-    /// Asks what is pending.
-    ///
-    /// - due: written with `QS_OK` only
-    /// - `QS_OK`: *due is set
-    pub fn qs_get_due(conn: *mut qs_conn, due: *mut qs_due) -> i32;
+    /// What `qs_get_due` calls.
+    pub fn qs_get_due_words(conn: *mut qs_conn, words: *mut u64, count: usize) -> i32;
     /// Reports that the packet of a payload was acknowledged (RFC 9000 section
     /// 13.3). Report each payload once, as acknowledged or as lost.
     ///
@@ -907,6 +872,172 @@ extern "C" {
     pub fn qs_datagram_set_max_size(conn: *mut qs_conn, size: u64) -> i32;
 }
 
+/// Opens a session in a closed handle.
+///
+/// - conn: a closed handle; left unchanged by an error
+/// - config: read; not needed after the call
+/// - `QS_OK`: the handle is open
+/// - `QS_ERR_IN_USE`: the handle was open already
+/// - `QS_ERR_ARGUMENT`: a number is above its bound, or unknown and not 0
+/// - `QS_ERR_NOMEM`: out of memory
+///
+/// # Safety
+///
+/// Pointers are valid, as the header says.
+#[inline]
+pub unsafe fn qs_conn_open(conn: *mut qs_conn, config: *const qs_config) -> i32 {
+    qs_conn_open_words(conn, config.cast(), size_of::<qs_config>() / 8)
+}
+
+/// Sets the peer's limits. Before, no stream can be opened and nothing can be
+/// written. For 0-RTT, call it first with the remembered limits. Each open
+/// stream of this endpoint gets its new limit, and `QS_EVENT_WRITABLE` is raised
+/// if it was blocked.
+///
+/// - limits: read; not needed after the call
+/// - `QS_OK`: the limits are set
+/// - `QS_ERR_ARGUMENT`: a stream limit is above 2^60, or another is 2^62 or
+///   more: close the connection with TRANSPORT_PARAMETER_ERROR; or a
+///   number is unknown and not 0
+/// - `QS_ERR_NOMEM`: out of memory; never if no stream was opened here
+///
+/// # Safety
+///
+/// Pointers are valid, as the header says.
+#[inline]
+pub unsafe fn qs_set_peer_limits(conn: *mut qs_conn, limits: *const qs_peer_limits) -> i32 {
+    qs_set_peer_limits_words(conn, limits.cast(), size_of::<qs_peer_limits>() / 8)
+}
+
+/// Reads the state of the session.
+///
+/// - info: written with `QS_OK` only
+/// - `QS_OK`: *info is set
+///
+/// # Safety
+///
+/// Pointers are valid, as the header says.
+#[inline]
+pub unsafe fn qs_get_info(conn: *mut qs_conn, info: *mut qs_info) -> i32 {
+    qs_get_info_words(conn, info.cast(), size_of::<qs_info>() / 8)
+}
+
+/// Writes pending frames, at most cap bytes, of the named parts. A host that
+/// lays out its packets itself calls it for single parts: each call makes a
+/// payload of its own, and a packet may have several.
+///
+/// - parts: `QS_CONTROL`, `QS_DATAGRAMS` and `QS_STREAMS`, or'ed
+/// - fair: not 0: streams of one priority take turns; 0: one goes on until
+///   it has nothing left
+/// - data: at least cap bytes; the first payload->len are written
+/// - cap: at least `QS_MIN_ROOM`, or pending frames may not fit
+/// - payload: written with `QS_OK` only
+/// - `QS_OK`: *payload is set. More may be pending: call again for the next
+///   packet, or for the rest of this one. If memory runs out after some
+///   frames, these are the payload.
+/// - `QS_DONE`: no pending frame of these parts fits into cap bytes
+/// - `QS_ERR_NOMEM`: out of memory; nothing was written
+///
+/// # Safety
+///
+/// Pointers are valid, as the header says.
+#[inline]
+pub unsafe fn qs_emit(
+    conn: *mut qs_conn,
+    parts: u32,
+    fair: u32,
+    data: *mut u8,
+    cap: usize,
+    payload: *mut qs_payload,
+) -> i32 {
+    qs_emit_words(
+        conn,
+        parts,
+        fair,
+        data,
+        cap,
+        payload.cast(),
+        size_of::<qs_payload>() / 8,
+    )
+}
+
+/// Writes pending frames as `qs_emit` does, into memory of the session, where
+/// they are valid until the next call on the handle. *data is set to where they
+/// begin, with `QS_OK` only.
+/// Parameters and return values are those of `qs_emit`.
+///
+/// # Safety
+///
+/// Pointers are valid, as the header says.
+#[inline]
+pub unsafe fn qs_emit_lent(
+    conn: *mut qs_conn,
+    parts: u32,
+    fair: u32,
+    cap: usize,
+    data: *mut *const u8,
+    payload: *mut qs_payload,
+) -> i32 {
+    qs_emit_lent_words(
+        conn,
+        parts,
+        fair,
+        cap,
+        data,
+        payload.cast(),
+        size_of::<qs_payload>() / 8,
+    )
+}
+
+/// Writes pending frames as `qs_emit` does, into an open buffer; a closed one is
+/// `QS_ERR_CLOSED`.
+///
+/// - parts: as with `qs_emit`
+/// - fair: as with `qs_emit`
+/// - cap: at least `QS_MIN_ROOM`, or pending frames may not fit
+/// - buffer: with `QS_OK` it has the payload alone, and its len is
+///   payload->len; else its bytes stay
+/// - payload: written with `QS_OK` only
+/// - `QS_OK`: *payload is set
+/// - `QS_DONE`: no pending frame of these parts fits into cap bytes
+/// - `QS_ERR_NOMEM`: out of memory; nothing was written
+///
+/// # Safety
+///
+/// Pointers are valid, as the header says.
+#[inline]
+pub unsafe fn qs_emit_buffer(
+    conn: *mut qs_conn,
+    parts: u32,
+    fair: u32,
+    cap: usize,
+    buffer: *mut qs_buffer,
+    payload: *mut qs_payload,
+) -> i32 {
+    qs_emit_buffer_words(
+        conn,
+        parts,
+        fair,
+        cap,
+        buffer,
+        payload.cast(),
+        size_of::<qs_payload>() / 8,
+    )
+}
+
+/// Asks what is pending.
+///
+/// - due: written with `QS_OK` only
+/// - `QS_OK`: *due is set
+///
+/// # Safety
+///
+/// Pointers are valid, as the header says.
+#[inline]
+pub unsafe fn qs_get_due(conn: *mut qs_conn, due: *mut qs_due) -> i32 {
+    qs_get_due_words(conn, due.cast(), size_of::<qs_due>() / 8)
+}
+
 #[cfg(test)]
 mod tests {
     use super::*;
@@ -927,8 +1058,7 @@ mod tests {
     fn each_field_stands_at_its_offset() {
         assert_eq!(offset!(qs_conn, live), 0);
         assert_eq!(offset!(qs_conn, at), 8);
-        assert_eq!(offset!(qs_config, size), 0);
-        assert_eq!(offset!(qs_config, side), 4);
+        assert_eq!(offset!(qs_config, side), 0);
         assert_eq!(offset!(qs_config, max_remote_uni), 8);
         assert_eq!(offset!(qs_config, max_remote_bidi), 16);
         assert_eq!(offset!(qs_config, send_window), 24);

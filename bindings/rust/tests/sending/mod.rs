@@ -217,11 +217,10 @@ impl End {
         max_size: usize,
     ) -> result::Result<Option<(Vec<u8>, Token)>, OutOfMemory> {
         let mut bytes = vec![0; max_size];
-        let Some(payload) = self.0.emit(&mut bytes, what)? else {
-            return Ok(None);
-        };
-        bytes.truncate(payload.len);
-        Ok(Some((bytes, payload.token)))
+        Ok(self.0.emit(&mut bytes, what)?.map(|payload| {
+            bytes.truncate(payload.len);
+            (bytes, payload.token)
+        }))
     }
 
     /// The next payload of STREAM frames.
@@ -265,11 +264,15 @@ impl End {
 
     /// The other frames that are due. They stay due, since their payload is lost.
     pub fn due(&mut self) -> Result<Vec<u8>> {
-        let Some((bytes, token)) = self.emit_control(100)? else {
-            assert!(!self.info().has_pending);
-            return Ok(Vec::new());
-        };
-        self.0.lost(token)?;
-        Ok(bytes)
+        match self.emit_control(100)? {
+            Some((bytes, token)) => {
+                self.0.lost(token)?;
+                Ok(bytes)
+            }
+            None => {
+                assert!(!self.info().has_pending);
+                Ok(Vec::new())
+            }
+        }
     }
 }

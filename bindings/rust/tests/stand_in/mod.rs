@@ -1,5 +1,9 @@
 //! A stand-in for the library: each call notes its arguments, writes distinct numbers through its pointers, and returns what
 //! the test says. So a test sees each argument that the crate passes, and where each number goes that it gets back.
+//!
+//! It is Rust alone, so Miri, valgrind and the sanitizers of rustc see each access of the layer: memory that is lent is
+//! allocated by the session, and is freed by the next call on it. The functions are unsafe by their declarations; the crate
+//! under test keeps the rules of the header, which they assert where they can.
 
 use quic_streams_sys::*;
 use std::cell::RefCell;
@@ -112,9 +116,14 @@ extern "C" fn qs_version() -> u32 {
 }
 
 #[no_mangle]
-unsafe extern "C" fn qs_conn_open(conn: *mut qs_conn, config: *const qs_config) -> i32 {
+unsafe extern "C" fn qs_conn_open_words(
+    conn: *mut qs_conn,
+    words: *const u64,
+    count: usize,
+) -> i32 {
     assert!((*conn).live == 0 && (*conn).at.is_null());
-    let answer = noted(format!("conn_open {:?}", *config));
+    let config: qs_config = read_words(words, count);
+    let answer = noted(format!("conn_open {config:?}"));
     if answer.result == QS_OK {
         let lent = Vec::new();
         (*conn).live = 1;
@@ -134,8 +143,13 @@ unsafe extern "C" fn qs_conn_free(conn: *mut qs_conn) {
 }
 
 #[no_mangle]
-unsafe extern "C" fn qs_set_peer_limits(conn: *mut qs_conn, limits: *const qs_peer_limits) -> i32 {
-    call(conn, format!("set_peer_limits {:?}", *limits)).result
+unsafe extern "C" fn qs_set_peer_limits_words(
+    conn: *mut qs_conn,
+    words: *const u64,
+    count: usize,
+) -> i32 {
+    let limits: qs_peer_limits = read_words(words, count);
+    call(conn, format!("set_peer_limits {limits:?}")).result
 }
 
 // Calls that take numbers and return nothing else.
@@ -330,25 +344,32 @@ unsafe extern "C" fn qs_poll(conn: *mut qs_conn, event: *mut qs_event) -> i32 {
     answer.result
 }
 
-// A struct of 64-bit words takes the numbers in their order.
-unsafe fn put_words<T>(out: *mut T, answer: &Answer) {
-    let words = from_raw_parts_mut(out.cast::<u64>(), std::mem::size_of::<T>() / 8);
+// A struct of so many 64-bit words, as a call passes it.
+unsafe fn read_words<T: Copy>(words: *const u64, count: usize) -> T {
+    assert_eq!(count * 8, std::mem::size_of::<T>());
+    *words.cast()
+}
+
+// A struct of so many 64-bit words takes the numbers in their order.
+unsafe fn put_words<T>(out: *mut u64, count: usize, answer: &Answer) {
+    assert_eq!(count * 8, std::mem::size_of::<T>());
+    let words = from_raw_parts_mut(out, count);
     for (at, word) in words.iter_mut().enumerate() {
         *word = answer.number(at);
     }
 }
 
 #[no_mangle]
-unsafe extern "C" fn qs_get_info(conn: *mut qs_conn, info: *mut qs_info) -> i32 {
+unsafe extern "C" fn qs_get_info_words(conn: *mut qs_conn, words: *mut u64, count: usize) -> i32 {
     let answer = call(conn, "get_info".into());
-    put_words(info, &answer);
+    put_words::<qs_info>(words, count, &answer);
     answer.result
 }
 
 #[no_mangle]
-unsafe extern "C" fn qs_get_due(conn: *mut qs_conn, due: *mut qs_due) -> i32 {
+unsafe extern "C" fn qs_get_due_words(conn: *mut qs_conn, words: *mut u64, count: usize) -> i32 {
     let answer = call(conn, "get_due".into());
-    put_words(due, &answer);
+    put_words::<qs_due>(words, count, &answer);
     answer.result
 }
 
@@ -368,35 +389,37 @@ unsafe extern "C" fn qs_receive(
 }
 
 #[no_mangle]
-unsafe extern "C" fn qs_emit(
+unsafe extern "C" fn qs_emit_words(
     conn: *mut qs_conn,
     parts: u32,
     fair: u32,
     data: *mut u8,
     cap: usize,
-    payload: *mut qs_payload,
+    words: *mut u64,
+    count: usize,
 ) -> i32 {
     let answer = call(conn, format!("emit {parts} {fair} {cap}"));
     assert!(answer.bytes.len() <= cap);
     data.copy_from_nonoverlapping(answer.bytes.as_ptr(), answer.bytes.len());
-    put_words(payload, &answer);
+    put_words::<qs_payload>(words, count, &answer);
     answer.result
 }
 
 #[no_mangle]
-unsafe extern "C" fn qs_emit_lent(
+unsafe extern "C" fn qs_emit_lent_words(
     conn: *mut qs_conn,
     parts: u32,
     fair: u32,
     cap: usize,
     data: *mut *const u8,
-    payload: *mut qs_payload,
+    words: *mut u64,
+    count: usize,
 ) -> i32 {
     let answer = call(conn, format!("emit_lent {parts} {fair} {cap}"));
     let lent = &mut session(conn).lent;
     lent.extend_from_slice(&answer.bytes);
     data.write(lent.as_ptr());
-    put_words(payload, &answer);
+    put_words::<qs_payload>(words, count, &answer);
     answer.result
 }
 
@@ -466,19 +489,20 @@ unsafe extern "C" fn qs_buffer_free(buffer: *mut qs_buffer) {
 }
 
 #[no_mangle]
-unsafe extern "C" fn qs_emit_buffer(
+unsafe extern "C" fn qs_emit_buffer_words(
     conn: *mut qs_conn,
     parts: u32,
     fair: u32,
     cap: usize,
     buffer: *mut qs_buffer,
-    payload: *mut qs_payload,
+    words: *mut u64,
+    count: usize,
 ) -> i32 {
     assert_eq!((*buffer).live, 1);
     let answer = call(conn, format!("emit_buffer {parts} {fair} {cap}"));
     *buffered(buffer) = answer.bytes.clone();
     show(buffer);
-    put_words(payload, &answer);
+    put_words::<qs_payload>(words, count, &answer);
     answer.result
 }
 
