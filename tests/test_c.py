@@ -3,7 +3,9 @@
 
 Where `make` did not put the library into that folder, the tests that need it are skipped, with a line that says so; in the gate, which
 makes it, they fail. A compiler or a tool that is missing fails the test that needs it."""
+import glob
 import os
+import re
 import shutil
 import subprocess
 import tempfile
@@ -15,6 +17,7 @@ LIB = os.environ.get("QUIC_STREAMS_LIB_DIR") or os.path.join(ROOT, "build", "lib
 ARCHIVE = os.path.join(LIB, "libquic_streams.a")
 WARNINGS = ["-Wall", "-Wextra", "-Wpedantic", "-Werror"]
 WRAPS = [f"-Wl,--wrap={name}" for name in ("malloc", "realloc", "free")]
+REGISTRY = "/usr/share/cargo/registry"  # of Debian's packages
 PAYLOADS = os.environ.get("QUIC_STREAMS_PAYLOADS", "1000000")
 
 
@@ -81,13 +84,16 @@ class Programs(Built):
         self.assertIn("6 tests", run(self.build("other_frames")))
 
     def test_each_number_at_its_bounds(self):
-        self.assertIn("5 tests", run(self.build("bounds")))
+        self.assertIn("6 tests", run(self.build("bounds")))
 
     def test_buffers_and_reads_that_lend(self):
         self.assertIn("7 tests", run(self.build("buffers")))
 
     def test_each_field_and_argument_by_a_number_of_its_own(self):
         self.assertIn("7 tests", run(self.build("distinct")))
+
+    def test_structs_of_older_and_newer_hosts(self):
+        self.assertIn("6 tests", run(self.build("words")))
 
     def test_two_ends(self):
         self.assertIn("100 seeds", run(self.build("two_ends"), "100"))
@@ -108,6 +114,7 @@ class Programs(Built):
         run(*valgrind, self.build("other_frames"))
         run(*valgrind, self.build("bounds"))
         run(*valgrind, self.build("distinct"))
+        run(*valgrind, self.build("words"))
         run(*valgrind, self.build("buffers"))
         run(*valgrind, self.build("two_ends"), "2")
         run(*valgrind, self.build("hostile"), "3000")
@@ -119,6 +126,7 @@ class Programs(Built):
         run(self.build("other_frames", *flags))
         run(self.build("buffers", *flags))
         run(self.build("distinct", *flags))
+        run(self.build("words", *flags))
         run(self.build("two_ends", *flags), "5")
         run(self.build("hostile", *flags), "50000")
 
@@ -193,9 +201,9 @@ class Examples(Built):
 class RustCrate(Built):
     FOLDER = os.path.join(ROOT, "bindings", "rust")
 
-    def cargo(self, *words, lib=LIB):
+    def cargo(self, *words, lib=LIB, folder=FOLDER):
         env = {**os.environ, "QUIC_STREAMS_LIB_DIR": lib, "CARGO_TARGET_DIR": os.path.join(self.room.name, "target")}
-        return run(tool("cargo"), *words, cwd=self.FOLDER, env=env)
+        return run(tool("cargo"), *words, cwd=folder, env=env)
 
     def test_its_tests_and_examples(self):
         said = self.cargo("test", "--offline", "--workspace")
@@ -207,8 +215,33 @@ class RustCrate(Built):
         for words in (("check",), ("clippy",), ("doc", "--no-deps")):
             self.cargo(*words, "--offline", "--workspace", lib=self.room.name)
 
+    def test_the_layer_alone_under_valgrind(self):
+        """tests/boundary.rs, whose stand-in for the library is in Rust: reads of memory that is not initialised, or was freed, and leaks."""
+        said = self.cargo("test", "--offline", "--test", "boundary", "--no-run")
+        program = re.search(r"\(([^()]*/boundary-[0-9a-f]+)\)", said).group(1)
+        leaks = ["--leak-check=full", "--show-leak-kinds=definite,indirect", "--errors-for-leak-kinds=definite,indirect"]
+        run(tool("valgrind"), "-q", "--error-exitcode=9", *leaks, os.path.join(self.FOLDER, program), "--test-threads=1")
+
     def test_it_can_be_packed(self):
         self.assertIn("Packaged", self.cargo("package", "--offline", "--workspace", "--allow-dirty"))
+        for name in ("LICENSE-MIT", "LICENSE-APACHE"):
+            with open(os.path.join(ROOT, name), "rb") as file:
+                wanted = file.read()
+            for crate in ("", "sys", "bytes"):
+                with open(os.path.join(self.FOLDER, crate, name), "rb") as file:
+                    self.assertEqual(file.read(), wanted, f"{crate}/{name}")
+
+    def test_chunks_of_bytes(self):
+        """The crate quic-streams-bytes, with Debian's package of the crate bytes in the place of a registry."""
+        if not glob.glob(f"{REGISTRY}/bytes-1.*"):
+            self.skipTest("librust-bytes-dev is not installed")
+        sources = ['source.crates-io.replace-with="debian"', f'source.debian.directory="{REGISTRY}"']
+        replaced = [word for it in sources for word in ("--config", it)]
+        folder = os.path.join(self.FOLDER, "bytes")
+        for words in (("test",), ("clippy", "--all-targets")):
+            ends = ("--", "-D", "warnings") if words[0] == "clippy" else ()
+            said = self.cargo(words[0], *replaced, *words[1:], "--offline", "--quiet", *ends, folder=folder)
+            self.assertEqual("test result: ok. 1 passed" in said, words[0] == "test")
 
 
 if __name__ == "__main__":

@@ -182,11 +182,15 @@ def numbers():
     sources = {name: read(name) for name in ("tests/test_sessions.py", "tests/test_early.py", "tests/test_settling.py")}
     sessions = {re.search(r"^SESSIONS = (\d+)$", text, flags=re.M)[1] for text in sources.values()}
     rust = next(len(names) for place, names in list_tests.places() if "quinn_proto_findings" in place)
+    over_c = next(names for place, names in list_tests.places() if place.startswith("bindings/rust"))
     cases = [it for it in read("tests/quinn_proto_cases.txt").splitlines() if it and not it.startswith("#")]
     return [
         ("docs/testing.md", "{:,} seeded sessions of 200 lines", (int(sessions.pop()),)),
         ("docs/guide.md", "`crates/connection_loop/src/connection.rt`, {} lines", (read("crates/connection_loop/src/connection.rt").count("\n"),)),
         ("docs/testing.md", "of which {} test what is here", (len(cases),)),
+        # (of the files, of 200 seeds, and two that are made)
+        ("docs/assurance.md", "every allocation of {} sessions", (len(list_tests.below("tools", "refused_memory", "*.txt")) + 1 + 200 + 2,)),
+        ("docs/assurance.md", "{} tests in Rust over the C library", (sum(not it.startswith("boundary::") for it in over_c),)),
         ("docs/findings.md", "all {} fail in debug", ({11: "eleven"}.get(rust),)),
         ("README.md", "[found {} faults]", ({11: "eleven"}.get(rust),)),
     ]
@@ -219,6 +223,7 @@ STATED = [
     ("examples/README.md", "one payload in three lost and one in ten late", "crates/streamsim/stdin", "loss 1 in 3"),
     ("docs/assurance.md", "2,000 seeded lists of steps", "crates/quic_assembler_tests/src/tests/replays.rt", "0..2000u64"),
     ("docs/assurance.md", "100 seeded sessions", "tests/test_c.py", "100 seeds"),
+    ("docs/assurance.md", "1,000 of them over the C library", "tests/test_c_sessions.py", '"QUIC_STREAMS_SESSIONS", "1000"'),
     ("docs/testing.md", "a million hostile payloads", "tests/c/hostile.c", ": 1000000;"),
     ("docs/security.md", "CI does it for the seeds from 1 to 15", "tests/test_refused_memory.py", "range(1, 16)"),
     ("docs/rules.md", "more than 25 bytes are left", "crates/quic_wire/src/frame.rt", "1 + 8 + 8 + 8"),

@@ -1,15 +1,23 @@
 """Installing, packing and using the library: `make install`, `uninstall`, `dist` and `doc`, in a copy of the repository that has the library
 and neither crates nor the kit."""
+import glob
 import hashlib
 import os
+import re
 import shutil
 import subprocess
 import tarfile
 import unittest
 
+import boundary
 from test_c import ARCHIVE, ROOT, Built, run, tool
 
 COPIED = ["Makefile", "include", "packaging", "examples", "bindings"]
+
+
+def read(path):
+    with open(path, encoding="utf-8") as file:
+        return file.read()
 
 
 class Packaging(Built):
@@ -70,6 +78,22 @@ class Packaging(Built):
     def test_flags_of_the_user_are_taken(self):
         self.make("build/bin/echo", "CFLAGS=-O0 -DQS_API=", "LDFLAGS=-Wl,-z,now,-rpath,/a/folder/of/the/user")
         self.assertIn("/a/folder/of/the/user", run(tool("readelf"), "-d", os.path.join(self.top, "build", "bin", "echo")))
+
+    def test_the_reference_has_a_page_for_each_call(self):
+        if not shutil.which("doxygen"):
+            self.skipTest("doxygen is not installed")
+        self.assertEqual(self.make("doc"), "")
+        header = boundary.generate.Header(boundary.texts()[boundary.HEADER])
+        doc = os.path.join(self.top, "build", "doc")
+        pages = "".join(map(read, glob.glob(os.path.join(doc, "html", "*_8h_a*.html"))))
+        self.assertGreater(len(header.calls), 40)
+        for call, (result, parameters) in header.calls.items():
+            self.assertIn(f"<title>libquic_streams: {call}</title>", pages)
+            page = read(os.path.join(doc, "man", "man3", f"{call}.3"))
+            self.assertIn(f'.BI "{result} {call}(', page)
+            for it in parameters:
+                self.assertIn(f'" {it.name} "', page)
+            self.assertEqual(set(re.findall(r"^\.B (QS_\w+)$", page, flags=re.M)), header.results(call), call)
 
     def test_without_kit_and_library_make_says_what_it_needs(self):
         ran = subprocess.run(["make", "-s", "PARTS=", "LIB=build/none"], cwd=self.top, stdout=subprocess.PIPE, stderr=subprocess.STDOUT, text=True)
