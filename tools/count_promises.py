@@ -4,6 +4,8 @@ takes, those of the headline included; then all promises together, the transitio
 
     tools/count_promises.py
 """
+import argparse
+
 from reading_list import Reader
 
 HEADLINE = ["Headline:Headline", "History:past_of"]
@@ -53,4 +55,5 @@ def main():
 
 
 if __name__ == "__main__":
+    argparse.ArgumentParser(description=__doc__, formatter_class=argparse.RawDescriptionHelpFormatter).parse_args()
     main()

@@ -1,4 +1,4 @@
-"""The crates of crates.txt, what each stands on, and the words by which the compiler is told of them."""
+"""The crates of crates.txt, what each stands on, and how a command line of the compiler names them."""
 import os
 import subprocess
 import sys

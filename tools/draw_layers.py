@@ -6,6 +6,7 @@
 A line is left out where other lines lead to the same crate, and goes around the crates between its ends. Crates of tests, and crates that
 only tests use, are left out.
 """
+import argparse
 import os
 
 ROOT = os.path.dirname(os.path.dirname(os.path.abspath(__file__)))
@@ -166,4 +167,5 @@ def main():
 
 
 if __name__ == "__main__":
+    argparse.ArgumentParser(description=__doc__, formatter_class=argparse.RawDescriptionHelpFormatter).parse_args()
     main()

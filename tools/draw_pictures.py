@@ -5,6 +5,7 @@
 
 The third is drawn from the stored run of `streamsim` (crates/streamsim/stdout).
 """
+import argparse
 import os
 from html import escape
 
@@ -188,4 +189,5 @@ def main():
 
 
 if __name__ == "__main__":
+    argparse.ArgumentParser(description=__doc__, formatter_class=argparse.RawDescriptionHelpFormatter).parse_args()
     main()

@@ -1,16 +1,17 @@
 #!/usr/bin/env python3
 """Lists where out-of-memory errors begin in the sources, and fails if one begins without a call that can run out of memory.
 
-usage: python3 tools/growth_errors.py [--list] [ROOT]
+    tools/growth_errors.py [--list] [ROOT]
 
 With --list it prints every place, else only those that no rule allows. Its status is 1 if there is one of those.
 
 An out-of-memory error may be passed on by `?`, or be made by name if a call that can run out of memory has failed: by a `From` of
-such an error, by `map_err` over the call, in an arm, an `if` or an `else` of its failure. docs/out_of_memory.md has the rules.
+such an error, by `map_err` over the call, in an arm, an `if` or an `else` of its failure.
 
 The codes and stops that stand for such an error count as well (`NO_MEMORY`, `NoPair`, `Failed`), and an `io::Error` that the code makes
 itself. A growth for a large constant, rather than for what is stored, counts as an error that was chosen.
 """
+import argparse
 import os
 import re
 import sys
@@ -23,8 +24,9 @@ ERROR_TYPES = {"OutOfMemory", "Oom", "AllocError", "AllocFailed", "TryReserveErr
 # Constants that are the code of such an error. Such a number may not be written in digits where the constant is known.
 CODES = {"NO_MEMORY"}
 
-# Names that also say that a read or a write failed. They may be made of an `io::Error` too.
+# Names that also say that a read or a write failed. They may be made of an `io::Error` too, or of an error of these types.
 FAILURES = {"Failed"}
+STREAM_ERRORS = {"StreamFailed"}
 
 # The names of out-of-memory errors: types, variants of other errors, and codes.
 NAMES = ERROR_TYPES | CODES | FAILURES | {"CompactionMemory", "NoMemory", "Memory", "NoPair"}
@@ -59,20 +61,18 @@ ALLOWED = {
     ("crates/connection_loop/src/connection.rt", "self.streams.acked(sent).or(Err(OutOfMemory))?;"),
     ("crates/connection_loop/src/connection.rt", ".or(Err(OutOfMemory))?,"),
     ("crates/hostile/src/application.rt", "answer.or(Err(OutOfMemory))"),
-    ("crates/streamsim/src/simulation.rt", "answer.or(Err(OutOfMemory))"),
-    ("crates/quic_exchange/src/replies.rt", "Err(_back) => Err(PairError::OutOfMemory),"),
     # A payload that an end wrote itself is decoded: its contract says that it can be.
     ("crates/hostile/src/application.rt", "Err(DecodeError::OutOfMemory) | Err(DecodeError::Malformed) => return Err(OutOfMemory),"),
     # The reply of a step said that memory ran out: no other reply ends a settling so.
     ("crates/quic_pair/src/settle.rt", "None => Err(OutOfMemory),"),
+    # The session says of a payload that it was cut, which it does only behind a frame for which memory ran out.
+    ("crates/quic_pair/src/emitting.rt", "return Err(OutOfMemory);"),
     # Both answers fail only out of memory, and this arm is for all cases except two successes, so one of them is an error.
     ("crates/quic_exchange/src/replies.rt", "_ => Err(PairError::OutOfMemory),"),
     # A map of 2^62 entries fits into no memory. The test bounds the count for the proof.
     ("crates/block_map/src/edits.rt", "blocks.reserve(usize::MAX)?;"),
     # A closed stream as an `io::Error`. It says nothing of memory.
     ("crates/quic_sending/src/send.rt", "io::Error::from(io::ErrorKind::NotConnected)"),
-    # A session of 2^64 - 2 lines: the loop has a bound for the proof.
-    ("crates/streampair/src/session.rt", "Err(Stop::Failed)"),
 }
 
 
@@ -634,7 +634,7 @@ def is_compared(tokens, i):
 
 
 def from_of(header):
-    """Why such an error may be made in `impl From<E> for F`: E means only out of memory, or it is an `io::Error`."""
+    """Why such an error may be made in `impl From<E> for F`: E means only out of memory, or that a read or a write failed."""
     words = [t.text for t in header]
     if "From" not in words or "for" not in words:
         return None
@@ -642,7 +642,7 @@ def from_of(header):
     inner = words[at + 2:len(words) - 1 - words[::-1].index("for")]
     if inner and inner[0] in ERROR_TYPES:
         return FROM_MEMORY
-    return FROM_IO if inner[:3] == ["io", "::", "Error"] else None
+    return FROM_IO if inner[:3] == ["io", "::", "Error"] or inner[:1] and inner[0] in STREAM_ERRORS else None
 
 
 def brought_in(tokens):
@@ -738,9 +738,11 @@ def places_of(texts, below):
 
 
 def main(arguments):
-    lists = arguments[:1] == ["--list"]
-    arguments = arguments[1:] if lists else arguments
-    root = arguments[0] if arguments else os.path.join(os.path.dirname(os.path.abspath(__file__)), "..")
+    parser = argparse.ArgumentParser(description=__doc__, formatter_class=argparse.RawDescriptionHelpFormatter)
+    parser.add_argument("--list", action="store_true", help="print every place")
+    parser.add_argument("root", nargs="?", default=os.path.join(os.path.dirname(os.path.abspath(__file__)), ".."), help="another checkout")
+    asked = parser.parse_args(arguments)
+    root = asked.root
     texts = {}
     for path in sources(root):
         with open(path, encoding="utf-8") as file:
@@ -751,7 +753,7 @@ def main(arguments):
     wrong, listed = [], set()
     for name, line, allowed, why in found:
         text = texts[name].split("\n")[line - 1].strip()
-        if lists:
+        if asked.list:
             print("%s:%d: %s: %s" % (name, line, why, text))
         if allowed:
             continue

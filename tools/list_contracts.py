@@ -5,10 +5,10 @@
     tools/list_contracts.py CRATE ..        each public function of these crates with its contract's names
     tools/list_contracts.py --full CRATE    the same with the text of each postcondition
 """
+import argparse
 import glob
 import os
 import re
-import sys
 
 from crate_list import CRATES, stands_on
 
@@ -73,15 +73,18 @@ def print_contracts(crate, full):
 
 
 def main():
-    asked = [it for it in sys.argv[1:] if not it.startswith("--")]
+    parser = argparse.ArgumentParser(description=__doc__, formatter_class=argparse.RawDescriptionHelpFormatter)
+    parser.add_argument("crates", metavar="CRATE", nargs="*", help="a crate of crates.txt; without one, a row for each")
+    parser.add_argument("--full", action="store_true", help="print the text of each postcondition")
+    asked = parser.parse_args()
     known = list(stands_on())
-    unknown = [it for it in asked if it not in known]
+    unknown = [it for it in asked.crates if it not in known]
     if unknown:
-        sys.exit(f"no such crate: {', '.join(unknown)}")
-    if not asked:
+        parser.error(f"no such crate: {', '.join(unknown)}")
+    if not asked.crates:
         print_counts(known)
-    for crate in asked:
-        print_contracts(crate, "--full" in sys.argv)
+    for crate in asked.crates:
+        print_contracts(crate, asked.full)
 
 
 if __name__ == "__main__":

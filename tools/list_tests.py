@@ -4,11 +4,11 @@
     tools/list_tests.py             a row for each place
     tools/list_tests.py --names     and the name of each test
 """
+import argparse
 import ast
 import glob
 import os
 import re
-import sys
 
 from crate_list import ROOT
 
@@ -67,9 +67,12 @@ def places():
 
 
 def main():
+    parser = argparse.ArgumentParser(description=__doc__, formatter_class=argparse.RawDescriptionHelpFormatter)
+    parser.add_argument("--names", action="store_true", help="print the name of each test")
+    asked = parser.parse_args()
     for place, names in places():
         print(f"{len(names):>5}  {place}")
-        for name in names if "--names" in sys.argv else []:
+        for name in names if asked.names else []:
             print(f"       {name}")
 
 

@@ -7,6 +7,7 @@ MODULE:NAME is a definition; MODULE alone stands for all definitions of a file. 
 the number of their lines (without comments and blank lines), then the types of the code that they name, and the sums. With
 --files it prints only the sums of each file, with --text the definitions themselves, each below its comment.
 """
+import argparse
 import os
 import re
 import sys
@@ -97,9 +98,13 @@ class Reader:
 
 
 def main():
-    asked = [argument for argument in sys.argv[1:] if not argument.startswith("--")]
+    parser = argparse.ArgumentParser(description=__doc__, formatter_class=argparse.RawDescriptionHelpFormatter)
+    parser.add_argument("names", metavar="MODULE:NAME", nargs="+", help="a definition, or MODULE for all of a file")
+    parser.add_argument("--files", action="store_true", help="print only the sums of each file")
+    parser.add_argument("--text", action="store_true", help="print the definitions themselves")
+    asked = parser.parse_args()
     reader, wanted = Reader(), []
-    for argument in asked:
+    for argument in asked.names:
         module, _, name = argument.partition(":")
         file = reader.file(module)
         if file is None:
@@ -112,12 +117,12 @@ def main():
         lines = {name: len(reader.files[module].items[name]) for name in items}
         total += sum(lines.values())
         print(f"{module.replace('.', '/')}.antt: {len(items)} definitions, {sum(lines.values())} lines")
-        if "--text" in sys.argv:
+        if asked.text:
             texts = reader.files[module].texts
             print("\n" + "\n\n".join("\n".join(texts[name]) for name in texts if name in items) + "\n")
-        elif "--files" not in sys.argv:
+        elif not asked.files:
             print("    " + ", ".join(items))
-    if "--files" not in sys.argv:
+    if not asked.files:
         print(f"types of the code: {', '.join(sorted(reader.types))}")
     for module, name in sorted(reader.missing):
         print(f"not found: {module} {name}")

@@ -5,6 +5,7 @@ the pictures.
     tools/update_pages.py            writes them
     tools/update_pages.py --check    prints what differs; the status is 1 if anything does
 """
+import argparse
 import functools
 import os
 import re
@@ -88,8 +89,11 @@ def read(path):
 
 
 def main():
+    parser = argparse.ArgumentParser(description=__doc__, formatter_class=argparse.RawDescriptionHelpFormatter)
+    parser.add_argument("--check", action="store_true", help="write nothing, and print what differs")
+    asked = parser.parse_args()
     texts = {path: read(path) for path in ("README.md", "docs/theorems.md", "docs/trust.md")}
-    if "--check" in sys.argv:
+    if asked.check:
         found = [it for path, text in texts.items() for it in differing(path, text)] + draw_pictures.differing()
         print("\n".join(found) or "the pages are as the sources")
         return 1 if found else 0
