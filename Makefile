@@ -69,7 +69,7 @@ $(LIB)/$(SHARED): $(LIB)/libquic_streams.a packaging/exports.map
 examples: build/bin/file_over_udp build/bin/echo
 	cd examples/rust && QUIC_STREAMS_LIB_DIR=$(CURDIR)/$(LIB) cargo build --offline --release
 
-build/bin/%: examples/c/%.c include/quic_streams.h $(LIB)/libquic_streams.a
+build/bin/%: examples/c/%.c examples/c/packets.h include/quic_streams.h $(LIB)/libquic_streams.a
 	mkdir -p $(dir $@)
 	$(CC) -std=c11 $(WARNINGS) $(CFLAGS) -Iinclude $(LDFLAGS) -o $@ $< $(LIB)/libquic_streams.a
 
@@ -78,11 +78,12 @@ doc:
 	rm -rf build/doc
 	mkdir -p build/doc
 	{ cat packaging/Doxyfile; echo 'PROJECT_NUMBER = $(VERSION)'; } | doxygen -
-	rm -f build/doc/man/man3/@*
+	find build/doc/man/man3 -type f ! -name 'qs_*' ! -name 'QS_*' ! -name 'quic_streams.h.3' -delete
+	python3 packaging/make_man.py build/doc/xml build/doc/man/man3 $(VERSION)
 
 check: all
 	python3 -m unittest tests.test_c
-	cd tests && python3 -m unittest test_boundary
+	cd tests && python3 -m unittest test_boundary test_c_sessions
 	cd bindings/rust && QUIC_STREAMS_LIB_DIR=$(CURDIR)/$(LIB) cargo test --offline --workspace
 
 install: all

@@ -16,8 +16,6 @@ import tarfile
 
 ROOT = os.path.dirname(os.path.dirname(os.path.abspath(__file__)))
 PAGES = ["README.md", "CHANGELOG.md", "SECURITY.md", "LICENSE-MIT", "LICENSE-APACHE", "NOTICE"]
-LICENCES = ["LICENSE-MIT", "LICENSE-APACHE"]
-CRATES = ["bindings/rust", "bindings/rust/sys", "bindings/rust/bytes"]
 
 
 def git(*words):
@@ -50,8 +48,6 @@ def contents(version, lib):
     names = [name for name in PAGES if os.path.isfile(os.path.join(ROOT, name))]
     names += git("ls-files", "include", "examples", "bindings").splitlines() + ["packaging/try_dist.py"]
     files = {name: read(os.path.join(ROOT, name)) for name in names}
-    for crate in CRATES:
-        files.update({f"{crate}/{name}": files[name] for name in LICENCES if name in files and f"{crate}/Cargo.toml" in files})
     shared = f"libquic_streams.so.{version}"
     for name in ("libquic_streams.a", shared):
         files[f"lib/{name}"] = read(os.path.join(lib, name))

@@ -1,10 +1,10 @@
 #!/usr/bin/env python3
 """Builds and runs the examples from a distribution alone, in a clean folder, without the kit.
 
-    packaging/try_dist.py quic-streams-0.1.0-x86_64-linux.tar.gz
+    packaging/try_dist.py [quic-streams-0.1.0-x86_64-linux.tar.gz]
 
-The C examples are built with pkg-config, static and shared, and with CMake, where these are installed; those in Rust with cargo. Then each
-talks to the other."""
+Without an archive it tries the distribution in which it lies, unpacked. The C examples are built with pkg-config, static and shared, and
+with CMake, those in Rust with cargo, and each talks to the other. A tool that is not on the path is left out, with a line that says so."""
 import hashlib
 import os
 import shutil
@@ -14,13 +14,37 @@ import tarfile
 import tempfile
 import time
 
-PATH = os.pathsep.join(dict.fromkeys(os.path.dirname(found) for found in map(shutil.which, ("cc", "cargo", "rustc", "cmake", "pkg-config", "sh")) if found))
+HERE = os.path.dirname(os.path.dirname(os.path.abspath(__file__)))
+TOOLS = ("cc", "sh", "make", "pkg-config", "cmake", "cargo", "rustc")
+PATH = os.pathsep.join(dict.fromkeys(os.path.dirname(found) for found in map(shutil.which, TOOLS) if found))
 
 
-def clean(**more):
+def clean(top):
     """An environment with compilers alone."""
+    if shutil.which("rt", path=PATH):
+        raise SystemExit(f"the kit's command rt is on this path: {PATH}")
     kept = {name: os.environ[name] for name in ("HOME", "CARGO_HOME", "RUSTUP_HOME") if name in os.environ}
-    return {"PATH": PATH, **kept, **more}
+    return {"PATH": PATH, "LD_LIBRARY_PATH": os.path.join(top, "lib"), **kept}
+
+
+def is_there(name):
+    if shutil.which(name, path=PATH):
+        return True
+    print(f"{name} is not on this path: what it builds is left out")
+    return False
+
+
+def unpack(room):
+    """Puts the distribution into a folder, and returns its top."""
+    if len(sys.argv) > 1:
+        with tarfile.open(sys.argv[1]) as archive:
+            archive.extractall(room)
+    elif os.path.isfile(os.path.join(HERE, "MANIFEST")):
+        shutil.copytree(HERE, os.path.join(room, os.path.basename(HERE)), symlinks=True, ignore=shutil.ignore_patterns("target"))
+    else:
+        raise SystemExit(f"{HERE} is no distribution: name an archive")
+    (name,) = os.listdir(room)
+    return os.path.join(room, name)
 
 
 def run(*words, cwd, env):
@@ -94,18 +118,17 @@ def send_files(one, other, port, env, top):
 def main():
     began = time.monotonic()
     with tempfile.TemporaryDirectory(prefix="quic-streams-") as room:
-        with tarfile.open(sys.argv[1]) as archive:
-            archive.extractall(room)
-        (name,) = os.listdir(room)
-        top = os.path.join(room, name)
+        top = unpack(room)
         print(f"{check_sums(top)} files as MANIFEST says")
-        env = clean(LD_LIBRARY_PATH=os.path.join(top, "lib"))
-        folders = [build_c(top, env, shared) for shared in (False, True)] if shutil.which("pkg-config") else []
-        if shutil.which("cmake"):
+        env = clean(top)
+        folders = [build_c(top, env, shared) for shared in (False, True)] if is_there("pkg-config") else []
+        if is_there("cmake"):
             build_cmake(top, env)
-        rust = build_rust(top, env)
-        files = [os.path.join(it, "file_over_udp") for it in folders] + [os.path.join(rust, "file-over-udp")]
-        echoes = [os.path.join(it, "echo") for it in folders] + [os.path.join(rust, "echo")]
+        files, echoes = ([os.path.join(it, name) for it in folders] for name in ("file_over_udp", "echo"))
+        if is_there("cargo"):
+            rust = build_rust(top, env)
+            files.append(os.path.join(rust, "file-over-udp"))
+            echoes.append(os.path.join(rust, "echo"))
         port = 10000 + os.getpid() % 9000
         for one in range(len(files)):
             other = (one + 1) % len(files)

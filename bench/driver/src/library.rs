@@ -76,8 +76,7 @@ fn reading(answer: i32) -> Reading {
 fn config(side: Side, limits: &Limits) -> sys::qs_config {
     let datagrams = limits.datagrams;
     sys::qs_config {
-        size: size_of::<sys::qs_config>() as u32,
-        side: u32::from(side == Side::Server),
+        side: u64::from(side == Side::Server),
         max_remote_uni: limits.unidirectional,
         max_remote_bidi: limits.bidirectional,
         send_window: limits.window,

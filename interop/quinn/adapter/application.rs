@@ -56,7 +56,7 @@ impl StreamsState {
     }
 
     pub(super) fn send_streams(&self) -> usize {
-        let all = self.endpoint.borrow_mut().info().send_streams as usize;
+        let all = self.endpoint.info().send_streams as usize;
         all.saturating_sub(self.ahead[Dir::Bi as usize].len())
     }
 
@@ -115,8 +115,7 @@ impl StreamsState {
     }
 
     pub(super) fn priority(&self, id: StreamId) -> Result<i32, UnknownStream> {
-        let mut endpoint = self.endpoint.borrow_mut();
-        self.on_stream(endpoint.send_stream(layer_id(id)).priority())
+        self.on_stream(self.endpoint.priority(layer_id(id)))
     }
 
     /// The result of a call on a stream.

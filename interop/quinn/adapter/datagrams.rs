@@ -58,8 +58,7 @@ impl Datagrams<'_> {
 
     /// The length of the longest datagram that can be queued without dropping another
     pub fn send_buffer_space(&self) -> usize {
-        let mut endpoint = self.conn.streams.endpoint.borrow_mut();
-        endpoint.datagram_send_buffer_space()
+        self.conn.streams.endpoint.datagram_send_buffer_space()
     }
 }
 

@@ -20,7 +20,7 @@ impl StreamsState {
             return Ok(false);
         }
         self.due.set(None);
-        let received = self.endpoint.get_mut().receive(payload);
+        let received = self.endpoint.receive(payload);
         // Its frames were counted: none is another one.
         Ok(received.map_err(transport_error)? == layer::Received::All)
     }

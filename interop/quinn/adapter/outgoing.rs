@@ -78,7 +78,7 @@ impl StreamsState {
     ) -> Option<Token> {
         let room = max_size.checked_sub(buf.len()).filter(|&room| room > 0)?;
         self.due.set(None);
-        let payload = match self.endpoint.get_mut().emit_lent(room, what) {
+        let payload = match self.endpoint.emit_lent(room, what) {
             Ok(payload) => payload?,
             Err(_) => {
                 self.ran_out_of_memory();
@@ -114,12 +114,11 @@ impl StreamsState {
     }
 
     /// Queues the control frames of a packet in flight once more, for a probe; false if it had none
-    pub(crate) fn send_again(&self, sent: &mut Payloads) -> bool {
+    pub(crate) fn send_again(&mut self, sent: &mut Payloads) -> bool {
         let Some(token) = sent.control.take() else {
             return false;
         };
-        self.due.set(None);
-        let settled = self.endpoint.borrow_mut().lost(token);
+        let settled = self.endpoint().lost(token);
         self.settled(settled);
         self.has_pending()
     }

@@ -106,7 +106,7 @@ impl StreamsState {
     /// Reads the data of several frames in order, as one chunk.
     fn read_frames(&mut self, id: StreamId) -> Result<Option<(Chunk, bool)>, layer::ReadError> {
         self.due.set(None);
-        let mut stream = self.endpoint.get_mut().recv_stream(layer_id(id));
+        let mut stream = self.endpoint.recv_stream(layer_id(id));
         let read = stream.read_lent()?;
         let length = read.pieces().map(<[u8]>::len).sum();
         if self.room.capacity() < length {
@@ -138,7 +138,7 @@ impl StreamsState {
         self.due.set(None);
         let room = uninit(self.room.chunk_mut());
         let length = max_length.min(room.len());
-        let mut stream = self.endpoint.get_mut().recv_stream(layer_id(id));
+        let mut stream = self.endpoint.recv_stream(layer_id(id));
         let Some((count, offset)) = stream.read_into_uninit(&mut room[..length], ordered)? else {
             return Ok(None);
         };

@@ -1,6 +1,6 @@
 //! The state of the streams, and its limits.
 
-use std::cell::{Cell, RefCell};
+use std::cell::Cell;
 use std::collections::VecDeque;
 use std::time::Instant;
 
@@ -21,8 +21,8 @@ const DATAGRAM_OVERHEAD: usize = 2 * 32;
 /// The streams of a connection
 pub struct StreamsState {
     pub(super) side: Side,
-    /// The library's endpoint. Its calls need `&mut`, where quinn-proto asks with a shared reference.
-    pub(super) endpoint: RefCell<layer::StreamsState>,
+    /// The library's endpoint.
+    pub(super) endpoint: layer::StreamsState,
     /// What is due, if the library was asked since the last change.
     pub(super) due: Cell<Option<layer::Due>>,
     /// Whether the library ran out of memory: then the connection is closed before its next packet.
@@ -46,7 +46,7 @@ impl StreamsState {
         let (endpoint, out_of_memory) = endpoint(side, config);
         Self {
             side,
-            endpoint: RefCell::new(endpoint),
+            endpoint,
             due: Cell::new(None),
             out_of_memory: Cell::new(out_of_memory),
             unsent: 0,
@@ -61,7 +61,7 @@ impl StreamsState {
     /// The endpoint, for a call that may change what is due.
     pub(super) fn endpoint(&mut self) -> &mut layer::StreamsState {
         self.due.set(None);
-        self.endpoint.get_mut()
+        &mut self.endpoint
     }
 
     /// The value of a call that can only fail for want of memory.
@@ -126,15 +126,12 @@ impl StreamsState {
 
     /// The next event for the application
     pub(crate) fn poll(&mut self) -> Option<Event> {
-        std::iter::from_fn(|| self.endpoint.get_mut().poll()).find_map(event_of)
+        std::iter::from_fn(|| self.endpoint.poll()).find_map(event_of)
     }
 
     /// What is due. The library is asked only if something changed.
     pub(super) fn due(&self) -> layer::Due {
-        let due = self
-            .due
-            .get()
-            .unwrap_or_else(|| self.endpoint.borrow_mut().due());
+        let due = self.due.get().unwrap_or_else(|| self.endpoint.due());
         self.due.set(Some(due));
         due
     }

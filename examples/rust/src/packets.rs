@@ -1,8 +1,9 @@
-//! An endpoint over a socket: packets, their acknowledgements and their losses.
+//! Packets over UDP on the loopback, for the examples: their numbers, acknowledgements and losses.
+//!
+//! A packet is a letter, a number of eight bytes and, after 'D', a payload. 'A' acknowledges the packet of that number, and
+//! 'C' closes. The program drops some of a hundred packets itself. Those of `examples/c` are the same.
 
-use quic_streams::{
-    Config, Emit, Limits, ReceiveError, Received, Side, StreamsState, Token, VarInt,
-};
+use quic_streams::{Config, Emit, Limits, ReceiveError, Received, Side, StreamsState, Token};
 use std::collections::BTreeMap;
 use std::error::Error;
 use std::io::ErrorKind;
@@ -13,15 +14,26 @@ const HEADER: usize = 9;
 const PACKET: usize = 1200;
 const FLIGHT: usize = 64;
 const LOST_AFTER: Duration = Duration::from_millis(50);
+const IDLE: Duration = Duration::from_secs(5);
 
 pub type Result<T> = std::result::Result<T, Box<dyn Error>>;
+
+/// How many packets were sent, dropped by the program, and declared lost.
+#[derive(Clone, Copy, Default)]
+pub struct Counts {
+    pub packets: u64,
+    pub dropped: u64,
+    pub lost: u64,
+}
 
 /// An endpoint, its socket, and its packets in flight.
 pub struct Host {
     pub state: StreamsState,
     pub is_closed: bool,
+    pub counts: Counts,
     socket: UdpSocket,
     has_peer: bool,
+    heard: Instant,
     flight: BTreeMap<u64, (Token, Instant)>,
     next: u64,
     loss: u64,
@@ -29,17 +41,11 @@ pub struct Host {
 }
 
 impl Host {
-    /// An endpoint whose peer has the same limits: 20 streams at a time, and small windows.
-    pub fn new(side: Side, port: u16, loss: u64, seed: u64) -> Result<Self> {
-        let mut config = Config::default();
-        config.max_remote_uni = VarInt::from_u32(0);
-        config.max_remote_bi = VarInt::from_u32(20);
-        config.receive_window = VarInt::from_u32(1 << 16);
-        config.stream_window = VarInt::from_u32(1 << 14);
-        config.send_window = 1 << 16;
-        config.datagram_receive = None;
-        let mut state = StreamsState::new(side, &config)?;
-        state.set_params(&Limits::of(&config))?;
+    /// An endpoint whose peer has the same limits. A server receives at the port, a client sends to it. Of a hundred packets
+    /// `loss` are dropped, drawn from `seed`.
+    pub fn new(side: Side, config: &Config, port: u16, loss: u64, seed: u64) -> Result<Self> {
+        let mut state = StreamsState::new(side, config)?;
+        state.set_params(&Limits::of(config))?;
         let own = if side.is_server() { port } else { 0 };
         let socket = UdpSocket::bind((Ipv4Addr::LOCALHOST, own))?;
         socket.set_read_timeout(Some(Duration::from_millis(5)))?;
@@ -49,24 +55,29 @@ impl Host {
         Ok(Self {
             state,
             is_closed: false,
+            counts: Counts::default(),
             socket,
             has_peer: side.is_client(),
+            heard: Instant::now(),
             flight: BTreeMap::new(),
             next: 0,
             loss,
             seed,
         })
     }
-}
 
-/// Its packets.
-impl Host {
+    fn is_dropped(&mut self) -> bool {
+        let (factor, step) = (6_364_136_223_846_793_005, 1_442_695_040_888_963_407);
+        self.seed = self.seed.wrapping_mul(factor).wrapping_add(step);
+        (self.seed >> 33) % 100 < self.loss
+    }
+
     fn send_packet(&mut self, kind: u8, number: u64, packet: &mut [u8]) -> Result<()> {
         packet[0] = kind;
         packet[1..HEADER].copy_from_slice(&number.to_be_bytes());
-        let (factor, step) = (6_364_136_223_846_793_005, 1_442_695_040_888_963_407);
-        self.seed = self.seed.wrapping_mul(factor).wrapping_add(step);
-        if kind != b'C' && (self.seed >> 33) % 100 < self.loss {
+        self.counts.packets += 1;
+        if kind != b'C' && self.is_dropped() {
+            self.counts.dropped += 1;
             return Ok(());
         }
         match self.socket.send(packet) {
@@ -75,18 +86,22 @@ impl Host {
         }
     }
 
-    /// Reports packets as lost that were not acknowledged for some time, and sends.
+    /// Reports packets as lost that were not acknowledged for some time, and writes payloads until nothing is pending or
+    /// enough packets are in flight.
     pub fn send_pending(&mut self) -> Result<()> {
-        while let Some(entry) = self.flight.first_entry() {
-            if entry.get().1.elapsed() <= LOST_AFTER {
+        while let Some((&number, &(token, sent_at))) = self.flight.iter().next() {
+            if sent_at.elapsed() <= LOST_AFTER {
                 break;
             }
-            self.state.lost(entry.remove().0)?;
+            self.flight.remove(&number);
+            self.counts.lost += 1;
+            self.state.lost(token)?;
         }
         let mut packet = [0; PACKET];
         while self.has_peer && self.flight.len() < FLIGHT {
-            let Some(payload) = self.state.emit(&mut packet[HEADER..], Emit::ALL)? else {
-                break;
+            let payload = match self.state.emit(&mut packet[HEADER..], Emit::ALL)? {
+                Some(payload) => payload,
+                None => break,
             };
             let number = self.next;
             self.next += 1;
@@ -96,7 +111,7 @@ impl Host {
         Ok(())
     }
 
-    /// Tells the peer that the connection is closed.
+    /// Closes the connection, and says so to the peer.
     pub fn close(&mut self) -> Result<()> {
         self.state.close();
         self.send_packet(b'C', 0, &mut [0; HEADER])
@@ -129,18 +144,22 @@ impl Host {
         Ok(())
     }
 
-    pub fn receive_packets(&mut self) -> Result<bool> {
-        let (mut packet, mut heard) = ([0; PACKET], false);
+    /// Waits for a packet for some milliseconds, and receives all that are there.
+    pub fn receive_packets(&mut self) -> Result<()> {
+        let mut packet = [0; PACKET];
         self.socket.set_nonblocking(false)?;
         while let Ok((len, from)) = self.socket.recv_from(&mut packet) {
             if !self.has_peer {
                 self.socket.connect(from)?;
                 self.has_peer = true;
             }
-            heard = true;
+            self.heard = Instant::now();
             self.on_packet(&packet[..len])?;
             self.socket.set_nonblocking(true)?;
         }
-        Ok(heard)
+        if self.heard.elapsed() > IDLE {
+            return Err("nothing was received for five seconds".into());
+        }
+        Ok(())
     }
 }
