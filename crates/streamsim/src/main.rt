@@ -1,5 +1,5 @@
-//! Two ends, and a network that loses and reorders payloads between them. Standard input says how much is sent over
-//! which network, standard output what came of it, as a table or as a picture.
+//! Two sessions, and a network that loses and reorders payloads between them. Standard input has the plan; the run is
+//! written to standard output, as a table or as a picture.
 #![tactic(auto)]
 
 mod simulation;
@@ -10,8 +10,8 @@ use std::io::{self, Read, Write};
 use std::process::ExitCode;
 use stream_chart::Plan;
 
-/// Does what the input asks for, and gives the status: 0 where all bytes were given as they were written, 2 at a
-/// malformed line, 3 where other bytes were given, 4 where not all were.
+/// Runs the plan of the input, and returns the status: 0 if all bytes were delivered as they were written, 2 at a
+/// malformed line, 3 if other bytes were delivered, 4 if not all were.
 pub fn serve<R: Read + Drop, W: Write>(
     rt: &impl Eprint,
     alloc: Global,
