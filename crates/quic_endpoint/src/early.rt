@@ -5,7 +5,7 @@ ghost use Rattle.quic_values.specs.declared.ids.Side.TheVariants.{Client};
 ghost use Rattle.quic_outgoing.specs.Early.{NoneAcked};
 ghost use Rattle.quic_retransmits.specs.Pending.{nothing, pending_view};
 ghost use Rattle.quic_history.specs.World.{Made};
-ghost use Rattle.quic_history.specs.Early.{IsEarly, with_rejection, SendsAgain};
+ghost use Rattle.quic_history.specs.Early.{IsEarly, with_rejection, SendsAgain, ResendsOnlyUnacked};
 ghost use Rattle.quic_history.specs.History.{Event, Rejected, SentAgain, IsUnanswered, From};
 ghost use Rattle.quic_endpoint.specs.Shown.{endpoint_view};
 
@@ -39,6 +39,7 @@ impl Endpoint {
     /// refused, all is as it was.
     pub fn retransmit_all_for_0rtt(&mut self) -> Result<(), OutOfMemory>
         ensures sends { NoneAcked (endpoint_view self.old).streams.out.side (endpoint_view self.old).streams.out.halves → SendsAgain (endpoint_view self.old).streams result (endpoint_view self.new).streams }
+        ensures unacked { ResendsOnlyUnacked (endpoint_view self.old).streams (endpoint_view self.new).streams }
         ensures err { OnErr result (endpoint_view self.new ≡ endpoint_view self.old) }
         ensures pending { (endpoint_view self.new).pending ≡ (endpoint_view self.old).pending }
         ensures unanswered { (m : Made) (h : List Event) → IsUnanswered h → From m h (endpoint_view self.old).streams
@@ -52,6 +53,7 @@ impl Endpoint {
     /// refused, all is as it was.
     pub fn send_again(&mut self, pending: Retransmits) -> Result<(), OutOfMemory>
         ensures sends { NoneAcked (endpoint_view self.old).streams.out.side (endpoint_view self.old).streams.out.halves → SendsAgain (endpoint_view self.old).streams result (endpoint_view self.new).streams }
+        ensures unacked { ResendsOnlyUnacked (endpoint_view self.old).streams (endpoint_view self.new).streams }
         ensures pending { OnOk result ((endpoint_view self.new).pending ≡ pending_view pending) }
         ensures err { OnErr result (endpoint_view self.new ≡ endpoint_view self.old) }
     {

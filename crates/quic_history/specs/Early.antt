@@ -13,7 +13,7 @@ use Rattle.quic_receiving.specs.Half.{Half}
 use Rattle.quic_flows.specs.Flow.{SendFlow, new_flow}
 use Rattle.quic_outgoing.specs.Senders.{is_local}
 use Rattle.quic_outgoing.specs.Outgoing.{Outgoing, own_ids}
-use Rattle.quic_outgoing.specs.Early.{after_rejection, with_all_unsent, QueuesUnsent}
+use Rattle.quic_outgoing.specs.Early.{after_rejection, with_all_unsent, KeepsAcked, QueuesUnsent}
 use Rattle.quic_history.specs.Halves.{Halves}
 use Rattle.quic_history.specs.World.{World, id_refusal}
 use Rattle.quic_history.specs.Used.{halves_among}
@@ -65,6 +65,12 @@ with_entries_put q (e ∷ es) = with_entries_put (with_entry q e) es
 abbrev pub SendsAgain : World → Result (Unit {0}) OutOfMemory → World → Type 0
 SendsAgain u (Ok x) v = (es : List Entry) × AreUnsentOf u.out (own_ids u.out) es × (v ≡ record u { out = with_all_unsent u.out; queue = with_entries_put u.queue es })
 SendsAgain u (Err e) v = v ≡ u
+
+-- also where something was acknowledged: the streams of which something was stay as they are, and nothing changes but
+-- what is to be sent of the others, and which are queued
+pub record ResendsOnlyUnacked (u v : World) : Type 0 where
+  pub kept : KeepsAcked u.out.halves v.out.halves
+  pub rest : v ≡ record u { out = record u.out { halves = v.out.halves }; queue = v.queue }
 
 -- what a call did to the sending sides of all streams at once
 pub data JointMove : Type 0 where

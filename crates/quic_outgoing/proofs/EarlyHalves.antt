@@ -16,8 +16,8 @@ use Rattle.quic_outgoing.specs.Senders.{first_for, first_limit, is_local, new_se
 use Rattle.quic_sending.specs.Buffer.{is_acked}
 use Rattle.quic_sending.specs.Sending.{is_reset_sent}
 use Rattle.quic_outgoing.specs.Transmitting.{is_data_sent}
-use Rattle.quic_outgoing.specs.Early.{of_peer_anew, own_unsent, as_unsent, NoneAcked}
-use Rattle.quic_outgoing.specs.Seen.{unsent_box}
+use Rattle.quic_outgoing.specs.Early.{of_peer_anew, own_unsent, as_unsent, NoneAcked, KeepsAcked}
+use Rattle.quic_outgoing.specs.Seen.{unsent_box, IsAckedAt}
 use Rattle.quic_outgoing.proofs.SenderMaps.{entry_sender, senders_of}
 
 none_first : (own : Bool) (d : Dir) → first_for own d no_limits ≡ 0
@@ -91,3 +91,22 @@ MayUnsend side q v = is_local side q ≡ true → IfSome v (λ b. is_reset_sent 
 pub may-unsend : (side : Side) (w : ℕ → ℕ) (f : ℕ → Option (Option (Box Send))) → NoneAcked side (senders_of w f) → (q : ℕ) (v : Option (Box Send)) → f q ≡ Some v → MayUnsend side q v
 may-unsend side w f none q None e own = tt
 may-unsend side w f none q (Some b) e own = λ open_now n. none q (raised (w q) (bare b.value)) own (ap (entry_sender (w q)) e) open_now n
+
+-- ---- a half of which something was acknowledged stays
+
+-- whether an offset of a half is acknowledged, where there is one
+acked_at : ℕ → Option Send → Bool
+acked_at n None = false
+acked_at n (Some s) = is_acked s.pending n
+
+acked-in : (limit : ℕ) (o : Option (Option (Box Send))) (s : Send) (n : ℕ) → entry_sender limit o ≡ Some s → is_acked s.pending n ≡ true → (v : Option (Box Send)) → o ≡ Some v → IsAckedAt n v
+unfolding acked_at
+acked-in limit o s n e a None l = tt
+acked-in limit o s n e a (Some b) l = ap (acked_at n) (sym (ap (entry_sender limit) l) ∙ e) ∙ a
+
+mapped-same : (o : Option (Option (Box Send))) → option_map (λ v. v) o ≡ o
+mapped-same None = refl
+mapped-same (Some v) = refl
+
+pub acked-kept : (w : ℕ → ℕ) (g f : ℕ → Option (Option (Box Send))) → ((n q : ℕ) → ((v : Option (Box Send)) → f q ≡ Some v → IsAckedAt n v) → g q ≡ option_map (λ v. v) (f q)) → KeepsAcked (senders_of w f) (senders_of w g)
+acked-kept w g f h q s n e a = ap (entry_sender (w q)) (h n q (acked-in (w q) (f q) s n e a) ∙ mapped-same (f q)) ∙ e

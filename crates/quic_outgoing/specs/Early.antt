@@ -47,6 +47,10 @@ with_all_unsent u = record u { halves = own_unsent u.side u.halves }
 abbrev pub NoneAcked : Side → SendersById → Type 0
 NoneAcked side f = (q : ℕ) (s : Send) → is_local side q ≡ true → f q ≡ Some s → is_reset_sent s.state ≡ false → (n : ℕ) → is_acked s.pending n ≡ false
 
+-- each half of which something was acknowledged stays as it is
+abbrev pub KeepsAcked : SendersById → SendersById → Type 0
+KeepsAcked f g = (q : ℕ) (s : Send) (n : ℕ) → f q ≡ Some s → is_acked s.pending n ≡ true → g q ≡ Some s
+
 -- the priority at which a stream is then to be queued, where it has something to be sent, and had nothing before
 abbrev pub QueuesUnsent : Option Send → Option ℤ → Type 0
 QueuesUnsent None queue = queue ≡ None

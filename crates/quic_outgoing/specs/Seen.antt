@@ -1,9 +1,10 @@
 -- The send halves that are held, as contracts see them.
-use Rattle.std.specs.Prelude.{ℕ, ◌==◌, Bool, false, Option, Some, None, is_some}
+use Rattle.std.specs.Prelude.{ℕ, ◌≡◌, ◌==◌, Bool, true, false, Option, Some, None, is_some, IfSome}
 use Rattle.std.specs.Option.{option_map}
 use Rattle.std.specs.HashMap.{get, spare}
 use Rattle.std.specs.Global.{Box}
 use Rattle.quic_sending.specs.declared.send.Send.{Send}
+use Rattle.quic_sending.specs.Buffer.{is_acked}
 use Rattle.quic_outgoing.specs.Senders.{SendersById, bare, new_sender, raised, first_limit}
 use Rattle.quic_outgoing.specs.Early.{as_unsent}
 use Rattle.quic_outgoing.specs.declared.entries.SendEntries.{SendEntries}
@@ -29,6 +30,10 @@ is_made e q = was_made (get ◌==◌ e.entries q)
 -- a half that was used, once all of it counts as not sent
 abbrev pub unsent_box : Box Send → Box Send
 unsent_box b = record b { value = as_unsent b.value }
+
+-- an offset of it is acknowledged, if the half was used
+abbrev pub IsAckedAt : ℕ → Option (Box Send) → Type 0
+IsAckedAt n v = IfSome v (λ b. is_acked b.value.pending n ≡ true)
 
 -- how many more halves can be held without new memory
 abbrev pub sender_room : SendEntries → ℕ

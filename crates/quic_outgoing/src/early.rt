@@ -1,7 +1,7 @@
 //! An early start (RFC 9001 section 4.6): what was sent before the peer answered is sent again, or was in vain.
 
 ghost use Rattle.std.specs.Prelude.{◌≡◌, ◌≤◌};
-ghost use Rattle.quic_outgoing.specs.Early.{after_rejection, with_all_unsent, NoneAcked, QueuesUnsent};
+ghost use Rattle.quic_outgoing.specs.Early.{after_rejection, with_all_unsent, NoneAcked, KeepsAcked, QueuesUnsent};
 ghost use Rattle.quic_outgoing.specs.History.{RejectedEarly, Unsent, Continues};
 ghost use Rattle.quic_outgoing.specs.Shown.{outgoing_view, permit_room};
 
@@ -35,6 +35,8 @@ impl OutgoingStreams {
     /// All that was sent on the streams of this end counts as not sent, and nothing as lost. A stream of which something
     /// was acknowledged stays as it is. Takes no memory.
     pub fn unsend_all(&mut self)
+        ensures kept { KeepsAcked (outgoing_view self.old).halves (outgoing_view self.new).halves }
+        ensures rest { outgoing_view self.new ≡ record (outgoing_view self.old) { halves = (outgoing_view self.new).halves } }
         ensures unsends { NoneAcked (outgoing_view self.old).side (outgoing_view self.old).halves → outgoing_view self.new ≡ with_all_unsent (outgoing_view self.old) }
         ensures from { NoneAcked (outgoing_view self.old).side (outgoing_view self.old).halves → Continues (outgoing_view self.old) Unsent (outgoing_view self.new) }
         ensures room { permit_room self.old ≤ permit_room self.new }

@@ -5,8 +5,8 @@ ghost use Rattle.std.specs.Option.{option_map};
 ghost use Rattle.quic_outgoing.specs.Senders.{bare, new_sender, with_sender, first_limit, first_for, are_one_end, is_local, no_limits, joined, raised_by};
 ghost use Rattle.quic_outgoing.specs.Calls.{told_of_half, blocked_limit, can_take};
 ghost use Rattle.quic_outgoing.specs.Acknowledging.{is_given_up};
-ghost use Rattle.quic_outgoing.specs.Early.{of_peer_anew, own_unsent, has_content, as_unsent, NoneAcked, QueuesUnsent};
-ghost use Rattle.quic_outgoing.specs.Seen.{unsent_box};
+ghost use Rattle.quic_outgoing.specs.Early.{of_peer_anew, own_unsent, has_content, as_unsent, NoneAcked, KeepsAcked, QueuesUnsent};
+ghost use Rattle.quic_outgoing.specs.Seen.{unsent_box, IsAckedAt};
 ghost use Rattle.quic_outgoing.specs.Seen.{senders, sender_room};
 ghost use Rattle.quic_sending.specs.Buffer.{is_acked};
 ghost use Rattle.quic_sending.specs.Sending.{is_reset_sent};
@@ -336,6 +336,7 @@ impl SendEntries {
     /// All that was sent on this end's streams counts as not sent.
     pub(crate) fn unsend_all(&mut self)
         ensures halves { NoneAcked self.old.side (senders self.old) → senders self.new ≡ own_unsent self.old.side (senders self.old) }
+        ensures kept { KeepsAcked (senders self.old) (senders self.new) }
         ensures side { self.new.side ≡ self.old.side }
         ensures first { self.new.first ≡ self.old.first }
         ensures room { sender_room self.old ≤ sender_room self.new }
@@ -381,7 +382,8 @@ fn has_content(half: &Send) -> bool
 
 // All that was sent of a half counts as not sent, and nothing as lost, where nothing was acknowledged.
 fn unsend_half(half: &mut Send)
-    ensures { (is_reset_sent half.old.state ≡ false → (n : ℕ) → is_acked half.old.pending n ≡ false) → half.new ≡ as_unsent half.old }
+    ensures kept { (n : ℕ) → is_acked half.old.pending n ≡ true → half.new ≡ half.old }
+    ensures unsent { (is_reset_sent half.old.state ≡ false → (n : ℕ) → is_acked half.old.pending n ≡ false) → half.new ≡ as_unsent half.old }
 {
     if half.is_reset() {
         return;
@@ -395,7 +397,8 @@ fn unsend_half(half: &mut Send)
 
 // The same of one that may have been used.
 fn unsend(entry: &mut Option<Box<Send>>)
-    ensures { (IfSome entry.old (λ b. is_reset_sent b.value.state ≡ false → (n : ℕ) → is_acked b.value.pending n ≡ false)) → entry.new ≡ option_map unsent_box entry.old }
+    ensures kept { (n : ℕ) → IsAckedAt n entry.old → entry.new ≡ entry.old }
+    ensures unsent { (IfSome entry.old (λ b. is_reset_sent b.value.state ≡ false → (n : ℕ) → is_acked b.value.pending n ≡ false)) → entry.new ≡ option_map unsent_box entry.old }
 {
     if let Some(half) = entry {
         unsend_half(half);

@@ -9,7 +9,7 @@ ghost use Rattle.quic_outgoing.specs.Shown.{outgoing_view};
 ghost use Rattle.quic_values.specs.Ids.{other_side};
 ghost use Rattle.quic_history.specs.World.{Made, PermitsNoLess, made_again};
 ghost use Rattle.quic_history.specs.Used.{halves_among};
-ghost use Rattle.quic_history.specs.Early.{IsEarly, with_rejection, SendsAgain, AreUnsentOf, entry_at, with_entries_put};
+ghost use Rattle.quic_history.specs.Early.{IsEarly, with_rejection, SendsAgain, ResendsOnlyUnacked, AreUnsentOf, entry_at, with_entries_put};
 ghost use Rattle.quic_history.specs.History.{Event, Rejected, SentAgain, IsUnanswered, From};
 ghost use Rattle.quic_history.specs.OwnDoings.{AreOwnDoings};
 ghost use Rattle.quic_streams.specs.Shown.{streams_view};
@@ -72,6 +72,7 @@ impl StreamsState {
     /// This is meant for a time at which nothing was acknowledged: a stream of which something was stays as it is.
     pub fn retransmit_all_for_0rtt(&mut self) -> Result<(), OutOfMemory>
         ensures sends { NoneAcked (streams_view self.old).out.side (streams_view self.old).out.halves → SendsAgain (streams_view self.old) result (streams_view self.new) }
+        ensures unacked { ResendsOnlyUnacked (streams_view self.old) (streams_view self.new) }
         ensures err { OnErr result (streams_view self.new ≡ streams_view self.old) }
         ensures from { (m : Made) (h : List Event) → NoneAcked (streams_view self.old).out.side (streams_view self.old).out.halves → From m h (streams_view self.old)
             → From m (SentAgain result ∷ h) (streams_view self.new) }
@@ -84,6 +85,7 @@ impl StreamsState {
     // The same.
     fn send_again(&mut self) -> Result<(), OutOfMemory>
         ensures sends { NoneAcked (streams_view self.old).out.side (streams_view self.old).out.halves → SendsAgain (streams_view self.old) result (streams_view self.new) }
+        ensures unacked { ResendsOnlyUnacked (streams_view self.old) (streams_view self.new) }
         ensures err { OnErr result (streams_view self.new ≡ streams_view self.old) }
     {
         let mut queue = self.queue.copy()?;
