@@ -27,6 +27,7 @@ use Rattle.quic_exchange.specs.Steps.{NextOrdinary, SettlesPayload}
 use Rattle.quic_exchange.specs.History.{Past, History, past_of, past_read, after, after_given, after_poll, after_deliver, after_report}
 use Rattle.quic_exchange.proofs.Eras.{EraFrom}
 use Rattle.quic_exchange.specs.Settling.{step_at, going_of, phase_after, phase_after_report, behind_reports, is_quiet_at, is_nothing_more, after_accepting, after_accept, after_streams, after_reading, after_polling, after_emits, after_frame, FollowsPhases, IsSoughtFor, none as follows_none, more as follows_more}
+use Rattle.quic_exchange.proofs.Emissions.{emitted-some}
 use Rattle.quic_exchange.proofs.Beside.{beside}
 use Rattle.quic_exchange.proofs.Grown.{past-after}
 use Rattle.quic_exchange.proofs.PayloadKnows.{StaySent}
@@ -240,10 +241,10 @@ module _ (a b : Origin) where
         asks_on (past_of h) _ old.sent new.sent (phase.Read who id ordered) (after_reading who id ordered going) (quiet_read (past_of h) old new who id ordered (2 ^ 64 - 1) 65535 reply n) (asked_reading who id ordered going) r
     asks_after (phase.Poll who) reply n going e ready r = asks_on (past_of h) _ old.sent new.sent (phase.Poll who) (after_polling who going) (quiet_poll (past_of h) old new who reply n) (asked_polling who going) r
     asks_after phase.EmitOfA reply n going e ready r =
-        asks_on (past_of h) (past_of h) old.sent new.sent phase.EmitOfA (phase.EmitOfB (length old.sent) (is_nothing_more going) (is_quiet_at new.sent (length old.sent))) (quiet-stay (past_of h) old.sent new.sent (stay-emitted old new A (2 ^ 64 - 1) true reply n)) (λ end d k. k) r
+        asks_on (past_of h) (past_of h) old.sent new.sent phase.EmitOfA (phase.EmitOfB (length old.sent) (is_nothing_more going) (is_quiet_at new.sent (length old.sent))) (quiet-stay (past_of h) old.sent new.sent (stay-emitted old new A (2 ^ 64 - 1) true reply (emitted-some old new A (2 ^ 64 - 1) true reply n))) (λ end d k. k) r
     asks_after (phase.EmitOfB first empty quiet) reply n going e ready r =
         let both = quiet && is_quiet_at new.sent (length old.sent) in
-        asks_on (past_of h) (past_of h) old.sent new.sent (phase.EmitOfB first empty quiet) (after_emits first empty going (length old.sent) both) (quiet-stay (past_of h) old.sent new.sent (stay-emitted old new B (2 ^ 64 - 1) true reply n)) (asked_emits first empty going (length old.sent) both) r
+        asks_on (past_of h) (past_of h) old.sent new.sent (phase.EmitOfB first empty quiet) (after_emits first empty going (length old.sent) both) (quiet-stay (past_of h) old.sent new.sent (stay-emitted old new B (2 ^ 64 - 1) true reply (emitted-some old new B (2 ^ 64 - 1) true reply n))) (asked_emits first empty going (length old.sent) both) r
     asks_after (phase.Deliver payload frame other quiet) reply n going e ready r = asks_frame payload frame other quiet going reply n ready.0 r
     asks_after (phase.Drop first) reply n going e ready r = asks_on (past_of h) _ old.sent new.sent (phase.Drop first) (phase.Drop first) (quiet_lost (past_of h) old new first reply n) (λ end d k. k) r
 

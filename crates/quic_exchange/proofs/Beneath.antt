@@ -7,7 +7,9 @@ use Rattle.quic_retransmits.specs.Settling.{noted_in}
 use Rattle.quic_streams.specs.declared.settling.SentPayload.{SentPayload}
 use Rattle.quic_streams.specs.Settling.{SentView}
 use Rattle.quic_streams.specs.Sent.{sent_view, report_view}
+use Rattle.quic_values.specs.declared.memory.OutOfMemory.{OutOfMemory}
 use Rattle.quic_endpoint.specs.Ends.{EndState}
+use Rattle.quic_endpoint.specs.Emitting.{PayloadView}
 use Rattle.quic_endpoint.specs.Reports.{LosesPayloadAt, AcksPayloadAt}
 use Rattle.quic_steps.specs.declared.steps.End.{End}
 use Rattle.quic_steps.specs.declared.steps.End.TheVariants.{A, B}
@@ -20,13 +22,15 @@ use Rattle.quic_exchange.specs.declared.early.EarlyLimits.{EarlyLimits}
 use Rattle.quic_exchange.specs.declared.unsettled.Report.{Report}
 use Rattle.quic_exchange.specs.declared.unsettled.Report.TheVariants.{Lost, Acknowledged}
 use Rattle.quic_exchange.specs.Unsettled.{unsettled_after}
+use Rattle.quic_exchange.specs.Parts.{EmitsPartAt}
 use Rattle.quic_exchange.specs.Replies.{Answer}
 use Rattle.quic_exchange.specs.State.{PairState, peer, the_end, with_end, with_sent, OnEnd}
-use Rattle.quic_exchange.specs.Steps.{Emitted, Delivers, HandsOver, Reports, SettlesPayload, NextOrdinary, is_server, needs_decision}
+use Rattle.quic_exchange.specs.Steps.{Emitted, EmittedBy, Delivers, HandsOver, Reports, SettlesPayload, NextOrdinary, is_server, needs_decision}
 use Rattle.quic_exchange.specs.History.{Past, after, after_report, waits_then}
 use Rattle.quic_exchange.specs.Tale.{Tales, StepTells}
 use Rattle.quic_exchange.specs.Due.{AsksFor, AsksAllOf, AsksAgain, AsksStreams, OnWriter}
 use Rattle.quic_exchange.specs.Gone.{with_noted, with_all_noted, noted_at}
+use Rattle.quic_exchange.proofs.Emissions.{EmittedSome, emitted-some, emitted-part}
 use Rattle.quic_exchange.proofs.Beside.{IsBeside, beside}
 use Rattle.quic_exchange.proofs.DuePayloads.{asks-all-of}
 use Rattle.quic_exchange.proofs.Lists.{one-of-first}
@@ -52,7 +56,7 @@ module _ (old new : PairState) where
   waits_with : (who : End) (e : EndState) (sent : List Sent) → new ≡ with_sent (with_end old who e) sent → new.waits ≡ old.waits
   waits_with who e sent is = ap (λ (v : PairState). v.waits) is ∙ waits_sent old who e sent
 
-  waits_emitted : (who : End) (most : ℕ) (fair : Bool) (reply : Answer) → Emitted old who most fair reply new → new.waits ≡ old.waits
+  waits_emitted : (who : End) (most : ℕ) (fair : Bool) (reply : Answer) → EmittedSome old who most fair reply new → new.waits ≡ old.waits
   waits_emitted who most fair (Ok (Payload number bytes)) k = waits_with who k.emits.end _ k.emits.is
   waits_emitted who most fair (Err NoMemory) k = elim k [
     | inl same ↦ waits_same same
@@ -100,7 +104,8 @@ waits-stay old new (steps.SetSendWindow who window) reply n = waits_on old new w
 waits-stay old new (steps.SetReceiveWindow who window) reply n = waits_on old new who n
 waits-stay old new (steps.SetMaxConcurrent who dir count) reply n = waits_on old new who n
 waits-stay old new (steps.Poll who) reply n = waits_on old new who n
-waits-stay old new (steps.Emit who most fair) reply n = waits_emitted old new who most fair reply n
+waits-stay old new (steps.Emit who most fair) reply n = waits_emitted old new who most fair reply (emitted-some old new who most fair reply n)
+waits-stay old new (steps.EmitPart who most fair part) reply n = waits_emitted old new who most fair reply (emitted-part old new who most fair part reply n)
 waits-stay old new (steps.Deliver number index) reply n = waits_delivered old new number index reply n
 waits-stay old new (steps.Lose number) reply n = waits_settled old new Lost LosesPayloadAt number reply n
 waits-stay old new (steps.Ack number) reply n = waits_settled old new Acknowledged AcksPayloadAt number reply n
@@ -138,6 +143,16 @@ module _ (old new : PairState) (e : EndState) where
     | inr t ↦ (let i = t.emits in inr (record { answer = t.answer; payload = t.payload; emits = record { end = i.end; emits = i.emits; sent = i.sent; sent_is = i.sent_is; is = ap (λ v. beside_end v e) i.is } }))
   ]
   emits_beside most fair _ k = absurd k
+
+  emitted_by_beside : (At : EndState → PayloadView → Result (Unit {0}) OutOfMemory → EndState → Type 0) (reply : Answer) → EmittedBy At old A reply new → EmittedBy At before A reply behind
+  emitted_by_beside At (Ok (Payload number bytes)) k =
+      let i = k.emits in
+      record { payload = k.payload; emits = record { end = i.end; emits = i.emits; sent = i.sent; sent_is = i.sent_is; is = ap (λ v. beside_end v e) i.is }; number_is = k.number_is; bytes_are = k.bytes_are }
+  emitted_by_beside At (Err NoMemory) k = elim k [
+    | inl same ↦ inl (same_beside same)
+    | inr t ↦ (let i = t.emits in inr (record { answer = t.answer; payload = t.payload; emits = record { end = i.end; emits = i.emits; sent = i.sent; sent_is = i.sent_is; is = ap (λ v. beside_end v e) i.is } }))
+  ]
+  emitted_by_beside At _ k = absurd k
 
   module _ (untaken : AreUntaken old.sent) (kind : Report) (At : EndState → SentView → Result (Unit {0}) SentView → EndState → Type 0) (number : ℕ) where
     reports_beside : (reply : Answer) → Reports kind At old number reply new → Reports kind At before number reply behind
@@ -187,6 +202,7 @@ linked-next old new e u (steps.SetReceiveWindow who window) reply by n = by_clie
 linked-next old new e u (steps.SetMaxConcurrent who dir count) reply by n = by_client (λ w. NextOrdinary old (steps.SetMaxConcurrent w dir count) reply new → NextOrdinary (beside_end old e) (steps.SetMaxConcurrent w dir count) reply (beside_end new e)) who by (λ d. end_beside old new e _ d) n
 linked-next old new e u (steps.Poll who) reply by n = by_client (λ w. NextOrdinary old (steps.Poll w) reply new → NextOrdinary (beside_end old e) (steps.Poll w) reply (beside_end new e)) who by (λ d. end_beside old new e _ d) n
 linked-next old new e u (steps.Emit who most fair) reply by n = by_client (λ w. NextOrdinary old (steps.Emit w most fair) reply new → NextOrdinary (beside_end old e) (steps.Emit w most fair) reply (beside_end new e)) who by (λ d. emits_beside old new e most fair reply d) n
+linked-next old new e u (steps.EmitPart who most fair part) reply by n = by_client (λ w. NextOrdinary old (steps.EmitPart w most fair part) reply new → NextOrdinary (beside_end old e) (steps.EmitPart w most fair part) reply (beside_end new e)) who by (λ d. emitted_by_beside old new e (EmitsPartAt part most fair) reply d) n
 linked-next old new e u (steps.Deliver number index) reply by n = cc
 linked-next old new e u (steps.Lose number) reply by n = settles_beside old new e u Lost LosesPayloadAt number reply n
 linked-next old new e u (steps.Ack number) reply by n = settles_beside old new e u Acknowledged AcksPayloadAt number reply n
@@ -244,6 +260,7 @@ asks-beneath old new e u (steps.ReceivedReset who id) reply by n a = by_client (
 asks-beneath old new e u (steps.SetReceiveWindow who window) reply by n a = by_client (λ w. AsksFor (beside_end old e) (steps.SetReceiveWindow w window) reply (beside_end new e) → AsksFor old (steps.SetReceiveWindow w window) reply new) who by (λ k. k) a
 asks-beneath old new e u (steps.SetMaxConcurrent who dir count) reply by n a = by_client (λ w. AsksFor (beside_end old e) (steps.SetMaxConcurrent w dir count) reply (beside_end new e) → AsksFor old (steps.SetMaxConcurrent w dir count) reply new) who by (λ k. k) a
 asks-beneath old new e u (steps.Emit who most fair) reply by n a = by_client (λ w. AsksFor (beside_end old e) (steps.Emit w most fair) reply (beside_end new e) → AsksFor old (steps.Emit w most fair) reply new) who by (λ k. k) a
+asks-beneath old new e u (steps.EmitPart who most fair part) reply by n a = by_client (λ w. AsksFor (beside_end old e) (steps.EmitPart w most fair part) reply (beside_end new e) → AsksFor old (steps.EmitPart w most fair part) reply new) who by (λ k. k) a
 asks-beneath old new e u (steps.Deliver number index) reply by n a = cc
 asks-beneath old new e u (steps.Lose number) reply by n a = on_writer old new e u number (λ s f. AsksAgain s.text.bytes f) reply a
 asks-beneath old new e u (steps.Ack number) reply by n a = on_writer old new e u number (λ s f. AsksStreams f) reply a
@@ -258,6 +275,7 @@ after-undecided p _ = refl
 
 pub tells-undecided : (old : List Sent) (step : Step) (t : Tales) → StepTells old old step (Err Undecided) t t
 tells-undecided old (steps.Emit who most fair) t = inl (refl, refl)
+tells-undecided old (steps.EmitPart who most fair part) t = inl (refl, refl)
 tells-undecided old _ t = refl
 
 pub waits-undecided : (w : Option EarlyLimits) (step : Step) → waits_then w step (Err Undecided) ≡ w

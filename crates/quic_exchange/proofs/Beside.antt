@@ -89,6 +89,7 @@ beside p (steps.SetReceiveWindow who window) reply k = beside_same p
 beside p (steps.SetMaxConcurrent who dir count) reply k = beside_same p
 beside p (steps.Poll who) reply k = poll_none p who reply
 beside p (steps.Emit who most fair) reply k = beside_same p
+beside p (steps.EmitPart who most fair part) reply k = beside_same p
 beside p (steps.Deliver number index) reply k = absurd k
 beside p (steps.Lose number) reply k = absurd k
 beside p (steps.Ack number) reply k = absurd k

@@ -19,7 +19,7 @@ use Rattle.quic_history.specs.World.{World, Made}
 use Rattle.quic_history.specs.Carrying.{with_writer}
 use Rattle.quic_history.specs.SendEvents.{TookTurn}
 use Rattle.quic_history.specs.History.{Event, LeftPending, Sending, flow}
-use Rattle.quic_streams.specs.Payload.{Entry, with_entries, control_order}
+use Rattle.quic_streams.specs.Payload.{Entry, with_entries}
 use Rattle.quic_streams.specs.Transmitting.{end_writer, told_bytes}
 use Rattle.quic_link.specs.Endpoints.{LinkedEnd, IsOneOf}
 use Rattle.quic_link.proofs.Ends.{ArePlain}
@@ -27,9 +27,10 @@ use Rattle.quic_link.proofs.Growth.{held-told}
 use Rattle.quic_link.proofs.Texts.{length-between}
 use Rattle.quic_link.proofs.TrueFrames.{turn-so}
 use Rattle.quic_endpoint.specs.Ends.{EndState}
-use Rattle.quic_endpoint.specs.Emitting.{PayloadView, control_in, place_at, EmitsControl, EmitsStreams, EmitsNoStream, EmitsAt, whole, cut}
+use Rattle.quic_endpoint.specs.Emitting.{PayloadView, control_in, place_at, EmitsStreams, EmitsNoStream}
 use Rattle.quic_exchange.proofs.Origins.{Origin}
 use Rattle.quic_steps.specs.declared.steps.End.{End}
+use Rattle.quic_steps.specs.declared.steps.PayloadPart.{PayloadPart}
 use Rattle.quic_steps.specs.declared.steps.Step.TheVariants as steps
 use Rattle.quic_steps.specs.declared.steps.Reply.TheVariants.{Payload}
 use Rattle.quic_steps.specs.declared.steps.PairError.TheVariants.{OutOfMemory as NoMemory}
@@ -37,8 +38,8 @@ use Rattle.quic_exchange.specs.Sent.{Sent}
 use Rattle.quic_exchange.specs.Payloads.{SentText, is_control, codes_in, metas_in, noted_of}
 use Rattle.quic_exchange.specs.Replies.{Answer}
 use Rattle.quic_exchange.specs.State.{PairState}
-use Rattle.quic_exchange.specs.Steps.{Emits, Emitted}
 use Rattle.quic_exchange.specs.Tale.{Tale, Tales, StepTells, SendsOne, WasPayload, with_deed, with_frames_sent, told_of}
+use Rattle.quic_exchange.proofs.Emissions.{EmitsKinds, EmitsSomeAt, whole, cut, EmitsSome, EmittedSome, part-tells}
 use Rattle.quic_exchange.proofs.DuePayloads.{Front, front_kinds, front_first, codes-joined, codes-noted, noted-joined}
 use Rattle.quic_exchange.proofs.PayloadQueues.{queue-bare}
 use Rattle.quic_exchange.proofs.PayloadEmits.{bare_world, bare_after}
@@ -178,7 +179,7 @@ entries_told : (m : Made) (es : List Entry) (h : List Event) (t : Tale) → AreP
 entries_told m [] h t p k = (p, k)
 entries_told m (e ∷ es) h t p k = entries_told m es (LeftPending e.kind e.frame ∷ h) t (refl, p) (tells-untold m h (LeftPending e.kind e.frame) t (untold (LeftPending e.kind e.frame) tt) k)
 
-control_counted : (m : Made) (t : Tale) (most : ℕ) (e f : EndState) (answer : Result (Unit {0}) OutOfMemory) (bytes : List ℕ) (sent : Pending) → EmitsControl most e answer f bytes sent → Counted m e.streams t → Counted m f.streams t
+control_counted : (m : Made) (t : Tale) (most : ℕ) (e f : EndState) (answer : Result (Unit {0}) OutOfMemory) (bytes : List ℕ) (sent : Pending) → EmitsKinds most e answer f bytes sent → Counted m e.streams t → Counted m f.streams t
 control_counted m t most e f answer bytes sent k c =
     let w = k.from in
     let told = entries_told m w.entries c.calls t c.plain c.tells in
@@ -193,12 +194,12 @@ pub record PayloadCounted (m : Made) (t : Tale) (payload : PayloadView) (f : End
   pub back : IsHandedBack payload all
   pub counted : Counted m f.streams (with_frames_sent all t)
 
-module _ (m : Made) (t : Tale) (most : ℕ) (e between : EndState) (payload : PayloadView) (f : EndState) (bytes : List ℕ) (answer : Result (Unit {0}) OutOfMemory) (control : EmitsControl most e answer between bytes (control_in payload)) (c : Counted m e.streams t) where
+module _ (m : Made) (t : Tale) (most : ℕ) (e between : EndState) (payload : PayloadView) (f : EndState) (bytes : List ℕ) (answer : Result (Unit {0}) OutOfMemory) (control : EmitsKinds most e answer between bytes (control_in payload)) (c : Counted m e.streams t) where
   then_counted : Counted m between.streams t
   then_counted = control_counted m t most e between answer bytes (control_in payload) control c
 
   begins_with : Front most (place_at e [] nothing control.before) (place_at between bytes (control_in payload) control.after)
-  begins_with = front_kinds most control_order (place_at e [] nothing control.before) (place_at e [] nothing control.before) (place_at between bytes (control_in payload) control.after) answer (front_first most e control.before) control.writes
+  begins_with = front_kinds most control.kinds (place_at e [] nothing control.before) (place_at e [] nothing control.before) (place_at between bytes (control_in payload) control.after) answer (front_first most e control.before) control.writes
 
   streams_behind : {fair : Bool} {last : Result (Unit {0}) OutOfMemory} → EmitsStreams most fair between bytes last f payload → PayloadCounted m t payload f
   streams_behind {fair} s =
@@ -246,9 +247,9 @@ module _ (m : Made) (t : Tale) (most : ℕ) (e between : EndState) (payload : Pa
         counted = subst P (sym told) (counted-at f.streams (ap (λ (g : EndState). g.streams) s.same) then_counted);
       }
 
-pub payload_counted : {most : ℕ} {fair : Bool} {e f : EndState} {payload : PayloadView} {answer : Result (Unit {0}) OutOfMemory} (m : Made) (t : Tale) → Counted m e.streams t → EmitsAt most fair e payload answer f → PayloadCounted m t payload f
+pub payload_counted : {most : ℕ} {fair : Bool} {e f : EndState} {payload : PayloadView} {answer : Result (Unit {0}) OutOfMemory} (m : Made) (t : Tale) → Counted m e.streams t → EmitsSomeAt most fair e payload answer f → PayloadCounted m t payload f
 payload_counted {most} {fair} {e} {f} {payload} m t c (whole between bytes control streams) = streams_behind m t most e between payload f bytes (Ok tt) control c streams
-payload_counted {most} {fair} {e} {f} {payload} m t c (cut {error} between bytes control short) = none_behind m t most e between payload f bytes (Err error) control c short
+payload_counted {most} {fair} {e} {f} {payload} m t c (cut {first} between bytes control short) = none_behind m t most e between payload f bytes first control c short
 
 -- ---- the step
 
@@ -260,7 +261,7 @@ module _ (a b : Origin) (old new : PairState) (r : Recounted a b old) (who : End
   abbrev after : Answer → Type 0
   after reply = Retold a b old r.tales (steps.Emit who most fair) reply new
 
-  emitted_any : (reply : Answer) (answer : Result (Unit {0}) OutOfMemory) (payload : PayloadView) → Emits old who most fair answer payload new
+  emitted_any : (reply : Answer) (answer : Result (Unit {0}) OutOfMemory) (payload : PayloadView) → EmitsSome old who most fair answer payload new
       → ((u : Tales) (sents : List Sent) → length sents ≡ length old.sent + 1 → SendsOne sents who r.tales u → StepTells old.sent sents (steps.Emit who most fair) reply r.tales u) → after reply
   emitted_any reply answer payload k tells =
       let c = payload_counted (made_at a b who) (r.tales.of who) (r.counted who) k.emits in
@@ -272,10 +273,16 @@ module _ (a b : Origin) (old new : PairState) (r : Recounted a b old) (who : End
       let sends : SendsOne sents who r.tales (record (told_of who (with_frames_sent c.all) r.tales) { payloads = r.tales.payloads + 1 }) = record { all = c.all; stood = stood; is = refl } in
       recount-sent a b old r (steps.Emit who most fair) reply who (with_frames_sent c.all) k.end payload k.sent new k.sent_is c.all c.spelled c.back k.is c.counted (tells _ sents longer sends)
 
-  pub counts-emit : (reply : Answer) → Emitted old who most fair reply new → after reply
+  pub counts-emit : (reply : Answer) → EmittedSome old who most fair reply new → after reply
   counts-emit (Ok (Payload number bytes)) k = emitted_any (Ok (Payload number bytes)) (Ok tt) k.payload k.emits (λ u sents size s. (s, r.count ∙ sym k.number_is))
   counts-emit (Err NoMemory) k = elim k [
     | inl same ↦ recount-same a b old r (steps.Emit who most fair) (Err NoMemory) new same (inl (refl, refl))
     | inr t ↦ emitted_any (Err NoMemory) t.answer t.payload t.emits (λ u sents size s. inr (size, s))
   ]
   counts-emit _ k = absurd k
+
+  -- so does a payload of one part
+  pub counts-part : (part : PayloadPart) (reply : Answer) → EmittedSome old who most fair reply new → Retold a b old r.tales (steps.EmitPart who most fair part) reply new
+  counts-part part reply k =
+      let told = counts-emit reply k in
+      record { behind = told.behind; tells = part-tells old.sent new.sent who most fair part reply r.tales told.behind.tales told.tells }

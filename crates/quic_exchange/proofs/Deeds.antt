@@ -33,7 +33,7 @@ use Rattle.quic_exchange.specs.Gone.{IsNoPayload}
 use Rattle.quic_exchange.specs.Notes.{Kept, row, rows, IsNoNote, FindsFrameOf, FailsToFindIn, MarksNote, MarksNoteIf, CanReport, RefusesNote}
 use Rattle.quic_exchange.specs.Unsettled.{goes_on, unsettled_after}
 use Rattle.quic_exchange.specs.State.{PairState, OnEnd, peer, the_end, with_end, with_sent, two_ends}
-use Rattle.quic_exchange.specs.Steps.{IsSentBy, Emits, Emitted, EndTakesFrame, HasPayload, Delivers, HandsOver, SentAfter, Reports, SettlesPayload}
+use Rattle.quic_exchange.specs.Steps.{IsSentBy, Emits, Emitted, EmitsBy, EmittedBy, EndTakesFrame, HasPayload, Delivers, HandsOver, SentAfter, Reports, SettlesPayload}
 use Rattle.quic_exchange.proofs.Rows.{row-at, rows-set, no-note}
 
 pub sent-same : (p : PairState) (who : End) (e : EndState) → (with_end p who e).sent ≡ p.sent
@@ -59,6 +59,16 @@ module _ (old new : PairState) (who : End) (most : ℕ) (fair : Bool) (payload :
   emit-so (Ok done) (Ok bytes) d b = record { payload = payload; emits = emits-so (Ok tt) d; number_is = count; bytes_are = b bytes refl }
   emit-so (Ok done) (Err error) d b = inr (record { answer = Ok tt; payload = payload; emits = emits-so (Ok tt) d })
   emit-so (Err wanting) copy d b = inr (record { answer = Err wanting; payload = payload; emits = emits-so (Err wanting) d })
+
+  -- so is one that is written in another way
+  emits_by : (At : EndState → PayloadView → Result (Unit {0}) OutOfMemory → EndState → Type 0) (answer : Result (Unit {0}) OutOfMemory) → OnEnd (λ e f. At e payload answer f) (two_ends old.a old.b) who (two_ends new.a new.b) → EmitsBy At old who answer payload new
+  emits_by At answer d = record { end = d.end; emits = subst (λ e. At e payload answer d.end) (end_alone who) d.does; sent = sent; sent_is = sent_is; is = sent_behind who d.end d.is }
+
+  pub emit-by : {E : Type 0} (At : EndState → PayloadView → Result (Unit {0}) OutOfMemory → EndState → Type 0) (written : Result (Unit {0}) OutOfMemory) (copy : Result (Vec ℕ) E) → OnEnd (λ e f. At e payload written f) (two_ends old.a old.b) who (two_ends new.a new.b)
+      → ((v : Vec ℕ) → copy ≡ Ok v → v.items ≡ payload.bytes) → EmittedBy At old who (payload_reply number written copy) new
+  emit-by At (Ok done) (Ok bytes) d b = record { payload = payload; emits = emits_by At (Ok tt) d; number_is = count; bytes_are = b bytes refl }
+  emit-by At (Ok done) (Err error) d b = inr (record { answer = Ok tt; payload = payload; emits = emits_by At (Ok tt) d })
+  emit-by At (Err wanting) copy d b = inr (record { answer = Err wanting; payload = payload; emits = emits_by At (Err wanting) d })
 
 -- ---- a frame is handed over
 

@@ -58,6 +58,7 @@ use Rattle.quic_endpoint.specs.Receiving.{MakesCall, ReceivesAt, event_of, done_
 use Rattle.quic_steps.specs.declared.steps.End.{End}
 use Rattle.quic_steps.specs.declared.steps.End.TheVariants.{A, B}
 use Rattle.quic_exchange.proofs.Origins.{Origin}
+use Rattle.quic_steps.specs.declared.steps.PayloadPart.{PayloadPart}
 use Rattle.quic_steps.specs.declared.steps.Step.{Step}
 use Rattle.quic_steps.specs.declared.steps.Step.TheVariants as steps
 use Rattle.quic_steps.specs.declared.steps.Reply.TheVariants.{Done, Payload}
@@ -70,14 +71,14 @@ use Rattle.quic_exchange.specs.Calls.{OnGiven, ReadsSo}
 use Rattle.quic_exchange.specs.declared.unsettled.Report.TheVariants.{Lost, Acknowledged}
 use Rattle.quic_exchange.specs.Payloads.{noted_of}
 use Rattle.quic_exchange.specs.Unsettled.{goes_on, may_report}
-use Rattle.quic_exchange.specs.Steps.{NextOrdinary, Emitted, HandsOver, Delivers, SettlesPayload, HasPayload}
+use Rattle.quic_exchange.specs.Steps.{NextOrdinary, Emitted, EmittedPart, HandsOver, Delivers, SettlesPayload, HasPayload}
 use Rattle.quic_exchange.specs.History.{History, past_of}
 use Rattle.quic_exchange.proofs.Eras.{EraFrom}
-use Rattle.quic_exchange.specs.Due.{AsksStreams, AsksData, AsksWindow, AsksAllOf, OpensAll, LeavesRoom, WritesAll, AsksForReset, AsksStop, AsksStopIf, AsksWindowIf, AsksAfterRead, AsksStreamsIf, AsksLarger, IsFull, IsFullIf, LosesNone, LosesNoneIf, HasConsumed, AsksAfterFrame, AsksAgain, OnWriter, AsksFor}
+use Rattle.quic_exchange.specs.Due.{AsksStreams, AsksData, AsksWindow, AsksAllOf, OpensAll, LeavesRoom, WritesAll, AsksForReset, AsksStop, AsksStopIf, AsksWindowIf, AsksAfterRead, AsksStreamsIf, AsksLarger, IsFull, IsFullIf, IsFullOf, IsFullOfIf, LosesNone, LosesNoneIf, HasConsumed, AsksAfterFrame, AsksAgain, OnWriter, AsksFor}
 use Rattle.quic_exchange.proofs.Left.{AreLeft}
 use Rattle.quic_exchange.proofs.Grown.{joined-from, grown-from}
 use Rattle.quic_exchange.proofs.Flips.{seen-as}
-use Rattle.quic_exchange.proofs.DuePayloads.{full-payload, loses-none, asks-all-of, is-last}
+use Rattle.quic_exchange.proofs.DuePayloads.{full-payload, loses-none, full-part, loses-none-of, asks-all-of, is-last}
 
 -- ---- the end that a step changed
 
@@ -480,6 +481,24 @@ module _ (a b : Origin) (h : History) (old new : PairState) (g : EraFrom a b h o
   emits_all who most fair (Err error) k = tt
   emits_all who most fair _ k = absurd k
 
+  part_full : (who : End) (most : ℕ) (fair : Bool) (part : PayloadPart) (reply : Answer) → EmittedPart old who most fair part reply new → IsFullOfIf part most reply (the_end new who)
+  part_full who most fair part (Ok (Payload number bytes)) k =
+      let F : EndState → Type 0 = λ e. IsFullOf part most bytes.items e in
+      let B : List ℕ → Type 0 = λ l. IsFullOf part most l k.emits.end in
+      subst F (sym (sent_end old new who k.emits.end (old.sent ++ k.emits.sent ∷ []) k.emits.is))
+      (subst B (sym k.bytes_are) (seen-as a b (past_of h) old who (joined-from g) (IsFullOf part most k.payload.bytes k.emits.end) (λ x y side s. full-part part most fair (the_end old who) k.emits.end k.payload x y s.linked s.here k.emits.emits)))
+  part_full who most fair part (Err error) k = tt
+  part_full who most fair part _ k = absurd k
+
+  part_all : (who : End) (most : ℕ) (fair : Bool) (part : PayloadPart) (reply : Answer) → EmittedPart old who most fair part reply new → LosesNoneIf (the_end old who) reply (the_end new who)
+  part_all who most fair part (Ok (Payload number bytes)) k =
+      let F : EndState → Type 0 = λ e. LosesNone (the_end old who) bytes.items e in
+      let B : List ℕ → Type 0 = λ l. LosesNone (the_end old who) l k.emits.end in
+      subst F (sym (sent_end old new who k.emits.end (old.sent ++ k.emits.sent ∷ []) k.emits.is))
+      (subst B (sym k.bytes_are) (loses-none-of part most fair (the_end old who) k.emits.end k.payload k.emits.emits))
+  part_all who most fair part (Err error) k = tt
+  part_all who most fair part _ k = absurd k
+
 -- ---- all steps
 
 module _ (old new : PairState) (who : End) (id : ℕ) (reply : Answer) where
@@ -567,6 +586,7 @@ asks-for a b h old new (steps.ReceivedReset who id) reply g n = codes_next old n
 asks-for a b h old new (steps.SetReceiveWindow who window) reply g n = window_next old new who window reply n
 asks-for a b h old new (steps.SetMaxConcurrent who dir count) reply g n = concurrent_next old new who dir count reply n
 asks-for a b h old new (steps.Emit who most fair) reply g n = (emits_full a b h old new g who most fair reply n, emits_all a b h old new g who most fair reply n)
+asks-for a b h old new (steps.EmitPart who most fair part) reply g n = (part_full a b h old new g who most fair part reply n, part_all a b h old new g who most fair part reply n)
 asks-for a b h old new (steps.Deliver number index) reply g n = delivers_asks old new number index reply n
 asks-for a b h old new (steps.Lose number) reply g n = let r = (grown-from g).recounted in loses_asks old new r.tales.told r.left number reply n
 asks-for a b h old new (steps.Ack number) reply g n = acks_asks old new number reply n

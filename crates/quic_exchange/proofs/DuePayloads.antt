@@ -33,8 +33,11 @@ use Rattle.quic_link.proofs.Basics.{either-of, only}
 use Rattle.quic_link.proofs.Joint.{agrees}
 use Rattle.quic_endpoint.specs.Ends.{EndState}
 use Rattle.quic_endpoint.specs.Emitting.{PayloadView, control_in, place_at, EmitsAt, whole}
+use Rattle.quic_steps.specs.declared.steps.PayloadPart.{PayloadPart}
+use Rattle.quic_steps.specs.declared.steps.PayloadPart.TheVariants.{Control, Streams}
+use Rattle.quic_exchange.specs.Parts.{EmitsPartAt}
 use Rattle.quic_exchange.specs.Payloads.{is_control, codes_in, noted_of}
-use Rattle.quic_exchange.specs.Due.{IsFull, AsksAllOf, ControlEntry, IsPending, frame_of, IsSpelledIn, LosesNone}
+use Rattle.quic_exchange.specs.Due.{IsFull, IsFullOf, AsksAllOf, ControlEntry, IsPending, frame_of, IsSpelledIn, LosesNone}
 use Rattle.quic_exchange.proofs.Entries.{frames-kept, entry-left, IsAmong, among-more, among-last}
 use Rattle.quic_exchange.proofs.Joined.{Stands}
 use Rattle.quic_exchange.proofs.Lists.{one-of-first}
@@ -222,6 +225,49 @@ loses-none {most} {fair} {e} {f} {payload} x y l s (whole between bytes c d) = �
         let ms = map (frame_with (told_bytes z.made z.calls)) appended.frames in
         let Q : List ℕ → Type 0 = λ b. BeginsFrames b (front.all ++ ms) [] in
         (front.all ++ ms, subst Q (sym appended.bytes) (join (bytes ++ appended.text) appended.text [] front.all ms (front.spelled appended.text) appended.decodes), one-of-first g front.all ms h)
+
+-- ---- a payload of one part
+
+-- it is full, if it was written whole
+pub full-part : (part : PayloadPart) (most : ℕ) (fair : Bool) (e f : EndState) (payload : PayloadView) (x y : LinkedEnd) → Linked x y → Stands x e → EmitsPartAt part most fair e payload (Ok tt) f → IsFullOf part most payload.bytes f
+full-part Control most fair e f payload x y l s k =
+    let c = k.writes in
+    let front = front_kinds most control_order (place_at e [] nothing c.before) (place_at e [] nothing c.before) (place_at f payload.bytes (control_in payload) c.after) (Ok tt) (front_first most e c.before) c.writes in
+    let Q : List ℕ → Type 0 = λ b. BeginsFrames b front.all [] in
+    record {
+      control = record { all = front.all; spelled = subst Q (append-nil payload.bytes) (front.spelled []); kind = front.control };
+      within = front.within;
+      kinds = c.full;
+    }
+full-part Streams most fair e f payload x y l s k =
+    let d = k.writes in
+    let P : World → Type 0 = λ u. From x.made x.calls u in
+    let from : From x.made x.calls e.streams = subst P s.world ((agrees l).0).comes.from in
+    let appended = d.carries x.made x.calls from in
+    let ms = map (frame_with (told_bytes x.made x.calls)) appended.frames in
+    let Q : List ℕ → Type 0 = λ b. BeginsFrames b ms [] in
+    record {
+      streams_are = record { all = ms; spelled = subst Q (sym appended.bytes) appended.decodes; kind = are_streams (told_bytes x.made x.calls) appended.frames };
+      within = appended.within (omega arith);
+      streams = d.full;
+    }
+
+-- and each control frame that was pending is so still, is in it, or is of no use any more
+pub loses-none-of : (part : PayloadPart) (most : ℕ) (fair : Bool) (e f : EndState) (payload : PayloadView) → EmitsPartAt part most fair e payload (Ok tt) f → LosesNone e payload.bytes f
+loses-none-of Control most fair e f payload k = λ entry h. elim (front.kept entry h) [ inl pending ↦ inl pending | inr written ↦ inr (spelled_in (frame_of e.streams entry) written) ]
+  where
+    start : PayloadPlace
+    start = place_at e [] nothing k.writes.before
+
+    front : Front most start (place_at f payload.bytes (control_in payload) k.writes.after)
+    front = front_kinds most control_order start start (place_at f payload.bytes (control_in payload) k.writes.after) (Ok tt) (front_first most e k.writes.before) k.writes.writes
+
+    spelled_in : (o : Option Frame) → IsAmong front.all o → IsSpelledIn payload.bytes o
+    spelled_in None h = tt
+    spelled_in (Some g) h =
+        let Q : List ℕ → Type 0 = λ b. BeginsFrames b front.all [] in
+        (front.all, subst Q (append-nil payload.bytes) (front.spelled []), h)
+loses-none-of Streams most fair e f payload k = λ entry h. let P : Pending → Type 0 = λ p. IsPending p entry in inl (subst P (sym k.writes.pending) h)
 
 -- ---- what was lost is to be sent again
 

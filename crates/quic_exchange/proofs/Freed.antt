@@ -149,6 +149,8 @@ module _ (t : Tales) (k : (who : End) (q : ℕ) → IsFreedSo ((t.of who).flow q
   freed_step old new (steps.SetSendWindow who window) (Ok Done) u e = freed_as who (with_window_of window) u e (λ j. j)
   freed_step old new (steps.Emit who most fair) (Ok (Payload number bytes)) u e = freed_sent new who u e.0
   freed_step old new (steps.Emit who most fair) (Err error) u e = λ end q. elim e [ inl same ↦ freed_same u same.1 end q | inr one ↦ freed_sent new who u one.1 end q ]
+  freed_step old new (steps.EmitPart who most fair part) (Ok (Payload number bytes)) u e = freed_sent new who u e.0
+  freed_step old new (steps.EmitPart who most fair part) (Err error) u e = λ end q. elim e [ inl same ↦ freed_same u same.1 end q | inr one ↦ freed_sent new who u one.1 end q ]
   freed_step old new (steps.Deliver number index) (Ok Done) u e = freed_as (peer e.who) (with_frame_heard e.frame) u e.is (freed_heard e.frame (t.of (peer e.who)))
   freed_step old new (steps.Deliver number index) (Ok DoneTransmit) u e = freed_as (peer e.who) (with_frame_heard e.frame) u e.is (freed_heard e.frame (t.of (peer e.who)))
   freed_step old new (steps.Lose number) (Ok Done) u e = freed_told new number lost_part freed_lost u e.some

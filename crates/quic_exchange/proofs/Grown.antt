@@ -20,6 +20,7 @@ use Rattle.quic_steps.specs.declared.steps.Reply.TheVariants.{Done}
 use Rattle.quic_exchange.specs.From.{end_begun, AreSoundLimits}
 use Rattle.quic_exchange.proofs.Eras.{EraFrom, begun, next, changed, IsBegun, ToldIn, tale_in, tales_in}
 use Rattle.quic_exchange.specs.Tale.{tale_begun}
+use Rattle.quic_exchange.proofs.Emissions.{emitted-some, emitted-part}
 use Rattle.quic_exchange.proofs.CountedBegun.{counted-given}
 use Rattle.quic_exchange.proofs.Joined.{Joined}
 use Rattle.quic_exchange.proofs.Left.{AreLeft}
@@ -34,7 +35,7 @@ use Rattle.quic_exchange.proofs.PayloadSteps.{joined-payloads}
 use Rattle.quic_exchange.proofs.Counted.{Counted}
 use Rattle.quic_exchange.proofs.Recounted.{Recounted, Retold, made_at}
 use Rattle.quic_exchange.proofs.CountedCalls.{counts-open, counts-accept, counts-write, counts-chunks, counts-finish, counts-reset, counts-stop, counts-priority, counts-read, counts-code, counts-send-window, counts-receive-window, counts-concurrent, counts-poll}
-use Rattle.quic_exchange.proofs.CountedPayloads.{counts-emit}
+use Rattle.quic_exchange.proofs.CountedPayloads.{counts-emit, counts-part}
 use Rattle.quic_exchange.proofs.CountedFrames.{counts-deliver}
 use Rattle.quic_exchange.proofs.CountedReports.{counts-lose, counts-ack}
 
@@ -57,6 +58,7 @@ module _ (a b : Origin) (p : Past) (old new : PairState) (reply : Answer) (j : J
   joined-next (steps.SetMaxConcurrent who dir count) n = joined-by a b p _ who old new j (λ x y s. seen-max-concurrent p who old new x y dir count reply s n)
   joined-next (steps.Poll who) n = joined-by a b p _ who old new j (λ x y s. seen-poll p who old new x y reply s n)
   joined-next (steps.Emit who most fair) n = joined-payloads a b p old new (steps.Emit who most fair) reply tt j told left n
+  joined-next (steps.EmitPart who most fair part) n = joined-payloads a b p old new (steps.EmitPart who most fair part) reply tt j told left n
   joined-next (steps.Deliver number index) n = joined-payloads a b p old new (steps.Deliver number index) reply tt j told left n
   joined-next (steps.Lose number) n = joined-payloads a b p old new (steps.Lose number) reply tt j told left n
   joined-next (steps.Ack number) n = joined-payloads a b p old new (steps.Ack number) reply tt j told left n
@@ -98,7 +100,8 @@ retold-next a b p old new j r (steps.SetSendWindow who window) reply n = counts-
 retold-next a b p old new j r (steps.SetReceiveWindow who window) reply n = counts-receive-window a b old new r who window reply n
 retold-next a b p old new j r (steps.SetMaxConcurrent who dir count) reply n = counts-concurrent a b old new r who dir count reply n
 retold-next a b p old new j r (steps.Poll who) reply n = counts-poll a b old new r who reply n
-retold-next a b p old new j r (steps.Emit who most fair) reply n = counts-emit a b old new r who most fair reply n
+retold-next a b p old new j r (steps.Emit who most fair) reply n = counts-emit a b old new r who most fair reply (emitted-some old new who most fair reply n)
+retold-next a b p old new j r (steps.EmitPart who most fair part) reply n = counts-part a b old new r who most fair part reply (emitted-part old new who most fair part reply n)
 retold-next a b p old new j r (steps.Deliver number index) reply n = counts-deliver a b p old new j r number index reply n
 retold-next a b p old new j r (steps.Lose number) reply n = counts-lose a b p old new j r number reply n
 retold-next a b p old new j r (steps.Ack number) reply n = counts-ack a b p old new j r number reply n

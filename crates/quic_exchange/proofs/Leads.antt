@@ -11,6 +11,7 @@ use Rattle.quic_link.specs.Endpoints.{IsOneOf}
 use Rattle.quic_endpoint.specs.Ends.{EndState}
 use Rattle.quic_steps.specs.declared.steps.End.{End}
 use Rattle.quic_steps.specs.declared.steps.End.TheVariants.{A, B}
+use Rattle.quic_steps.specs.declared.steps.PayloadPart.TheVariants.{Control, Streams}
 use Rattle.quic_steps.specs.declared.steps.Step.{Step}
 use Rattle.quic_steps.specs.declared.steps.Step.TheVariants as steps
 use Rattle.quic_steps.specs.declared.steps.Reply.TheVariants.{Done}
@@ -337,6 +338,7 @@ module _ (s : Beginning) (h : History) (old new : PairState) (f : PairFrom s h o
   asks_refused (steps.SetReceiveWindow who window) = tt
   asks_refused (steps.SetMaxConcurrent who dir count) = tt
   asks_refused (steps.Emit who most fair) = (tt, tt)
+  asks_refused (steps.EmitPart who most fair part) = (tt, tt)
   asks_refused (steps.Deliver number index) = tt
   asks_refused (steps.Lose number) = tt
   asks_refused (steps.Ack number) = tt
@@ -398,6 +400,8 @@ module _ (s : Beginning) (h : History) (old new : PairState) (f : PairFrom s h o
 
   leaves_refused : (t : Tales) (step : Step) → LeavesNone t step (Err Undecided)
   leaves_refused t (steps.Emit who most fair) = tt
+  leaves_refused t (steps.EmitPart who most fair Control) = tt
+  leaves_refused t (steps.EmitPart who most fair Streams) = tt
   leaves_refused t _ = tt
 
   -- what they tell, before a step and behind it

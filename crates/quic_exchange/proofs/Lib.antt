@@ -25,6 +25,7 @@ pub mod Drained
 pub mod Due
 pub mod DuePayloads
 pub mod EarlyCalls
+pub mod Emissions
 pub mod Entries
 pub mod Eras
 pub mod Finished

@@ -28,8 +28,9 @@ use Rattle.quic_exchange.specs.Unsettled.{unsettled_after}
 use Rattle.quic_exchange.specs.Replies.{Answer, received_reply}
 use Rattle.quic_exchange.specs.State.{PairState, OnEnd, with_end, with_sent}
 use Rattle.quic_exchange.specs.Gone.{IsGone}
-use Rattle.quic_exchange.specs.Steps.{NextOrdinary, Emits, Emitted, SentAfter, HandsOver, Delivers, Reports, SettlesPayload}
+use Rattle.quic_exchange.specs.Steps.{NextOrdinary, SentAfter, HandsOver, Delivers, Reports, SettlesPayload}
 use Rattle.quic_exchange.specs.History.{Past, History, FramePlace, after, after_deliver, after_report, past_of}
+use Rattle.quic_exchange.proofs.Emissions.{EmitsSome, EmittedSome, emitted-some, emitted-part}
 use Rattle.quic_exchange.proofs.Eras.{EraFrom, begun, next, changed, Changes, accepts, retries}
 use Rattle.quic_exchange.proofs.Lists.{slice_get-append_left, slice_get-push, slice_get-slice_set, slice_set-keeps, slice_get-set_same}
 use Rattle.quic_exchange.proofs.Deeds.{sent-same}
@@ -156,11 +157,11 @@ module _ (p : Past) (old new : PairState) (m : AreMarkedSo p.accepted old.sent) 
   marks_stay : new ≡ old → AreMarkedSo p.accepted new.sent
   marks_stay e = marks_same p.accepted p.accepted old.sent new.sent refl (ap (λ (v : PairState). v.sent) e) m
 
-  marks_emits : {who : End} {most : ℕ} {fair : Bool} {answer : Result (Unit {0}) OutOfMemory} {payload : PayloadView} → Emits old who most fair answer payload new → AreMarkedSo p.accepted new.sent
+  marks_emits : {who : End} {most : ℕ} {fair : Bool} {answer : Result (Unit {0}) OutOfMemory} {payload : PayloadView} → EmitsSome old who most fair answer payload new → AreMarkedSo p.accepted new.sent
   marks_emits {who} k =
       marks_same p.accepted p.accepted (old.sent ++ k.sent ∷ []) new.sent refl (ap (λ (v : PairState). v.sent) k.is) (marks_sent p.accepted old.sent k.sent (ap (λ (t : SentText). t.accepted) k.sent_is.text) m)
 
-  marks_emitted : (who : End) (most : ℕ) (fair : Bool) (reply : Answer) → Emitted old who most fair reply new → AreMarkedSo p.accepted new.sent
+  marks_emitted : (who : End) (most : ℕ) (fair : Bool) (reply : Answer) → EmittedSome old who most fair reply new → AreMarkedSo p.accepted new.sent
   marks_emitted who most fair (Ok (Payload number bytes)) k = marks_emits k.emits
   marks_emitted who most fair (Err NoMemory) k = elim k [ inl is ↦ marks_stay is | inr t ↦ marks_emits t.emits ]
   marks_emitted who most fair _ k = absurd k
@@ -230,7 +231,8 @@ module _ (p : Past) (old new : PairState) (reply : Answer) (m : AreMarkedSo p.ac
   marks-next (steps.SetReceiveWindow who window) n = marks_on_end who (steps.SetReceiveWindow who window) tt n
   marks-next (steps.SetMaxConcurrent who dir count) n = marks_on_end who (steps.SetMaxConcurrent who dir count) tt n
   marks-next (steps.Poll who) n = marks_on_end who (steps.Poll who) tt n
-  marks-next (steps.Emit who most fair) n = marks_emitted p old new m who most fair reply n
+  marks-next (steps.Emit who most fair) n = marks_emitted p old new m who most fair reply (emitted-some old new who most fair reply n)
+  marks-next (steps.EmitPart who most fair part) n = marks_emitted p old new m who most fair reply (emitted-part old new who most fair part reply n)
   marks-next (steps.Deliver number index) n = marks_delivers p old new m number index reply n
   marks-next (steps.Lose number) n = marks_settles p old new m number Lost LosesPayloadAt reply n
   marks-next (steps.Ack number) n = marks_settles p old new m number Acknowledged AcksPayloadAt reply n

@@ -1,4 +1,4 @@
--- The network has the payloads that `Emit` returned.
+-- The network has the payloads that `Emit` and `EmitPart` returned.
 use Rattle.std.proofs.Common.{◌≡◌, ℕ, Bool, true, false, List, [], ◌∷◌, ◌++◌, length, Some, Result, Ok, Err, refl, sym, ap, ◌∙◌, subst, inl, inr, arith, ◌+◌, ◌<◌}
 use Rattle.std.specs.Prelude.{◌&&◌, MatchBool, is_some, nat_lt, slice_get, slice_set}
 use Rattle.std.proofs.lemmas.List.{length-append}
@@ -14,6 +14,7 @@ use Rattle.quic_endpoint.specs.Reports.{LosesPayloadAt, AcksPayloadAt}
 use Rattle.quic_values.specs.declared.memory.OutOfMemory.{OutOfMemory}
 use Rattle.quic_steps.specs.declared.steps.End.{End}
 use Rattle.quic_steps.specs.declared.steps.End.TheVariants.{A, B}
+use Rattle.quic_steps.specs.declared.steps.PayloadPart.{PayloadPart}
 use Rattle.quic_steps.specs.declared.steps.Step.{Step}
 use Rattle.quic_steps.specs.declared.steps.Step.TheVariants as steps
 use Rattle.quic_steps.specs.declared.steps.Reply.TheVariants.{Done, Payload}
@@ -25,10 +26,11 @@ use Rattle.quic_exchange.specs.declared.unsettled.Report.{Report}
 use Rattle.quic_exchange.specs.declared.unsettled.Report.TheVariants.{Lost, Acknowledged}
 use Rattle.quic_exchange.specs.Replies.{Answer}
 use Rattle.quic_exchange.specs.State.{PairState, OnEnd, with_end}
-use Rattle.quic_exchange.specs.Steps.{NextTaken, Next, Emits, Emitted, SentAfter, HandsOver, Delivers, Reports, SettlesPayload, Accepted, Rejected, Retried, needs_decision}
+use Rattle.quic_exchange.specs.Steps.{NextTaken, Next, SentAfter, HandsOver, Delivers, Reports, SettlesPayload, Accepted, Rejected, Retried, needs_decision}
 use Rattle.quic_exchange.specs.History.{History}
 use Rattle.quic_exchange.specs.From.{Beginning, PairFrom, begun, next}
 use Rattle.quic_exchange.specs.Network.{IsSamePayload, KeepsPayloads, KeepsNetwork, SendsPayload, EmitsReturned, DropsPayloads, DropsEarlyData, ChangesNetwork, Returned, returned_then, returned_from, AreInNetwork, AreAllReturned, IsEmittedWhole, IsNetworkOf}
+use Rattle.quic_exchange.proofs.Emissions.{EmitsSome, EmittedSome, emitted-some, emitted-part}
 use Rattle.quic_exchange.proofs.Lists.{slice_get-append_left, slice_set-keeps, slice_get-set_same, slice_set-length, slice_get-within, slice_get-there, one-of-first, one-of-last}
 use Rattle.quic_exchange.proofs.CountedPayloads.{last_of}
 
@@ -83,12 +85,12 @@ module _ (old new : PairState) where
   on_end : {P : EndState → EndState → Type 0} (who : End) → OnEnd P old who new → KeepsNetwork old.sent new.sent
   on_end who d = keeps_same old.sent new.sent (ap (λ (v : PairState). v.sent) d.is ∙ sent_end old who d.end)
 
-  emits_one : (who : End) (most : ℕ) (fair : Bool) (answer : Result (Unit {0}) OutOfMemory) (payload : PayloadView) → Emits old who most fair answer payload new → SendsPayload who payload.bytes old.sent new.sent
+  emits_one : (who : End) (most : ℕ) (fair : Bool) (answer : Result (Unit {0}) OutOfMemory) (payload : PayloadView) → EmitsSome old who most fair answer payload new → SendsPayload who payload.bytes old.sent new.sent
   emits_one who most fair answer payload k =
       let P : List Sent → Type 0 = λ l. SendsPayload who payload.bytes old.sent l in
       subst P (sym (ap (λ (v : PairState). v.sent) k.is)) (sends_last who payload.bytes old.sent k.sent k.sent_is.writer (ap (λ (t : SentText). t.bytes) k.sent_is.text) k.sent_is.here)
 
-  emits_network : (who : End) (most : ℕ) (fair : Bool) (reply : Answer) → Emitted old who most fair reply new → EmitsReturned who reply old.sent new.sent
+  emits_network : (who : End) (most : ℕ) (fair : Bool) (reply : Answer) → EmittedSome old who most fair reply new → EmitsReturned who reply old.sent new.sent
   emits_network who most fair (Ok (Payload number bytes)) k =
       let P : List ℕ → Type 0 = λ b. SendsPayload who b old.sent new.sent in
       (k.number_is, subst P (sym k.bytes_are) (emits_one who most fair (Ok tt) k.payload k.emits))
@@ -161,7 +163,8 @@ module _ (old new : PairState) where
   taken (steps.SetReceiveWindow who window) reply n = on_end who n
   taken (steps.SetMaxConcurrent who dir count) reply n = on_end who n
   taken (steps.Poll who) reply n = on_end who n
-  taken (steps.Emit who most fair) reply n = emits_network who most fair reply n
+  taken (steps.Emit who most fair) reply n = emits_network who most fair reply (emitted-some old new who most fair reply n)
+  taken (steps.EmitPart who most fair part) reply n = emits_network who most fair reply (emitted-part old new who most fair part reply n)
   taken (steps.Deliver number index) reply n = delivered number index reply n
   taken (steps.Lose number) reply n = settled Lost LosesPayloadAt number reply n
   taken (steps.Ack number) reply n = settled Acknowledged AcksPayloadAt number reply n
@@ -171,6 +174,7 @@ module _ (old new : PairState) where
 
   undecided : new ≡ old → (step : Step) → ChangesNetwork old step (Err Undecided) new
   undecided is (steps.Emit who most fair) = unchanged is
+  undecided is (steps.EmitPart who most fair part) = unchanged is
   undecided is steps.EarlyReject = unchanged is
   undecided is steps.Retry = unchanged is
   undecided is _ = unchanged is
@@ -240,7 +244,10 @@ module _ (l : List Returned) (who : End) (bytes : List ℕ) (old new : List Sent
           ∙ ap (as_returned (length old) who) p.bytes_are)
 
 whole_before : (h : History) (step : Step) (reply : Answer) → IsEmittedWhole (h ++ (step, reply) ∷ []) → IsEmittedWhole h
-whole_before h step reply w who most fair listed = w who most fair (one-of-first (steps.Emit who most fair, Err NoMemory) h ((step, reply) ∷ []) listed)
+whole_before h step reply w = record {
+  whole = λ who most fair listed. w.whole who most fair (one-of-first (steps.Emit who most fair, Err NoMemory) h ((step, reply) ∷ []) listed);
+  parts = λ who most fair part listed. w.parts who most fair part (one-of-first (steps.EmitPart who most fair part, Err NoMemory) h ((step, reply) ∷ []) listed);
+}
 
 module _ (h : History) (old new : PairState) (before : IsNetworkOf h old.sent) where
   abbrev Behind : Step → Answer → Type 0
@@ -271,12 +278,25 @@ module _ (h : History) (old new : PairState) (before : IsNetworkOf h old.sent) w
   network_emitted who most fair (Err NoMemory) k = elim k [
     | inl same ↦ network_kept (steps.Emit who most fair) (Err NoMemory) refl same
     | inr p ↦ network_as (steps.Emit who most fair) (Err NoMemory) (returned_from [] h) refl (there_still (returned_from [] h) old.sent new.sent p.1.each before.there)
-        (λ w. absurd (w who most fair (one-of-last (steps.Emit who most fair, Err NoMemory) h ((steps.Emit who most fair, Err NoMemory) ∷ []) (inl refl))))
+        (λ w. absurd (w.whole who most fair (one-of-last (steps.Emit who most fair, Err NoMemory) h ((steps.Emit who most fair, Err NoMemory) ∷ []) (inl refl))))
   ]
   network_emitted who most fair reply k = network_kept (steps.Emit who most fair) reply refl k
 
+  network_part : (who : End) (most : ℕ) (fair : Bool) (part : PayloadPart) (reply : Answer) → EmitsReturned who reply old.sent new.sent → Behind (steps.EmitPart who most fair part) reply
+  network_part who most fair part (Ok (Payload number bytes)) k =
+      let l = returned_from [] h in
+      network_as (steps.EmitPart who most fair part) (Ok (Payload number bytes)) (as_returned (length old.sent) who bytes.items ∷ l) (ap (λ (n : ℕ). as_returned n who bytes.items ∷ l) k.0) (there_sent l who bytes.items old.sent new.sent k.1 before.there)
+      (λ w. returned_sent l who bytes.items old.sent new.sent k.1 (before.only (whole_before h (steps.EmitPart who most fair part) (Ok (Payload number bytes)) w)))
+  network_part who most fair part (Err NoMemory) k = elim k [
+    | inl same ↦ network_kept (steps.EmitPart who most fair part) (Err NoMemory) refl same
+    | inr p ↦ network_as (steps.EmitPart who most fair part) (Err NoMemory) (returned_from [] h) refl (there_still (returned_from [] h) old.sent new.sent p.1.each before.there)
+        (λ w. absurd (w.parts who most fair part (one-of-last (steps.EmitPart who most fair part, Err NoMemory) h ((steps.EmitPart who most fair part, Err NoMemory) ∷ []) (inl refl))))
+  ]
+  network_part who most fair part reply k = network_kept (steps.EmitPart who most fair part) reply refl k
+
   network_next : (step : Step) (reply : Answer) → ChangesNetwork old step reply new → Behind step reply
   network_next (steps.Emit who most fair) reply k = network_emitted who most fair reply k
+  network_next (steps.EmitPart who most fair part) reply k = network_part who most fair part reply k
   network_next steps.EarlyReject (Ok reply) k = network_dropped steps.EarlyReject (Ok reply) refl k.0
   network_next steps.EarlyReject (Err error) k = network_kept steps.EarlyReject (Err error) refl k
   network_next steps.Retry (Ok reply) k = network_dropped steps.Retry (Ok reply) refl k

@@ -30,6 +30,7 @@ use Rattle.quic_endpoint.specs.Ends.{EndState, OpensAt, WritesAt}
 use Rattle.quic_exchange.proofs.Origins.{Origin}
 use Rattle.quic_steps.specs.declared.steps.End.{End}
 use Rattle.quic_steps.specs.declared.steps.End.TheVariants.{A, B}
+use Rattle.quic_steps.specs.declared.steps.PayloadPart.TheVariants.{Streams}
 use Rattle.quic_steps.specs.declared.steps.Step.{Step}
 use Rattle.quic_steps.specs.declared.steps.Step.TheVariants as steps
 use Rattle.quic_steps.specs.declared.steps.Reply.TheVariants.{Payload}
@@ -37,7 +38,7 @@ use Rattle.quic_exchange.specs.Replies.{Answer, opened_reply, written_reply, chu
 use Rattle.quic_exchange.specs.State.{PairState, OnEnd, the_end}
 use Rattle.quic_exchange.specs.Calls.{OnGiven, Writes, WritesChunksOrNone}
 use Rattle.quic_exchange.specs.Steps.{NextOrdinary}
-use Rattle.quic_exchange.specs.Due.{IsFull}
+use Rattle.quic_exchange.specs.Due.{IsFull, IsFullOfStreams}
 use Rattle.quic_exchange.proofs.Eras.{EraFrom, ToldIn}
 use Rattle.quic_exchange.specs.History.{History, past_of}
 use Rattle.quic_exchange.specs.Readable.{side_of}
@@ -302,6 +303,12 @@ none_left m w t c id e k =
 leaves_so : (a b : Origin) (h : History) (old new : PairState) (r : Recounted a b new) (step : Step) (reply : Answer) → EraFrom a b h old → NextOrdinary old step reply new → LeavesNone r.tales step reply
 leaves_so a b h old new r (steps.Emit who most fair) (Ok (Payload number bytes)) f n =
     let full : IsFull most bytes.items (the_end new who) = (asks-for a b h old new (steps.Emit who most fair) (Ok (Payload number bytes)) f n).0 in
+    λ id rest. elim full.streams [
+      | inl none ↦ absurd (none_left (made_at a b who) (the_end new who).streams (r.tales.of who) (r.counted who) id none rest)
+      | inr fills ↦ fills
+    ]
+leaves_so a b h old new r (steps.EmitPart who most fair Streams) (Ok (Payload number bytes)) f n =
+    let full : IsFullOfStreams most bytes.items (the_end new who) = (asks-for a b h old new (steps.EmitPart who most fair Streams) (Ok (Payload number bytes)) f n).0 in
     λ id rest. elim full.streams [
       | inl none ↦ absurd (none_left (made_at a b who) (the_end new who).streams (r.tales.of who) (r.counted who) id none rest)
       | inr fills ↦ fills

@@ -29,13 +29,13 @@ use Rattle.quic_history.specs.SendEvents.{GaveLimits, OpenedOwn, RaisedData, Rai
 use Rattle.quic_history.specs.History.{Event, Step, Fits, Received, ReceivedReset, Accepted, Resized, SetConcurrent, Sending, Began, Gave, Ended, Stopped as StoppedEvent, ToldReset, LeftPending, SentAgain, given, with_chunks, with_last}
 use Rattle.quic_history.proofs.Traces.{itself}
 use Rattle.quic_streams.specs.declared.batches.ReadSome.{ReadSome}
-use Rattle.quic_streams.specs.Payload.{PayloadPlace, SettlesSome, WritesKinds, control_order, none as no_entry, more as one_entry}
+use Rattle.quic_streams.specs.Payload.{PayloadPlace, SettlesSome, WritesKinds, none as no_entry, more as one_entry}
 use Rattle.quic_streams.specs.Transmitting.{with_turns}
 use Rattle.quic_streams.specs.Settling.{SentView, EachInOrder, AcksMeta, LosesMeta, AcksResetOf, AcksWhole, resets_of}
 use Rattle.quic_streams.specs.Sent.{sent_view, report_view}
 use Rattle.quic_link.specs.Endpoints.{IsOneOf}
 use Rattle.quic_endpoint.specs.Ends.{EndState, ResetsAt, with_counts_told_if, with_world}
-use Rattle.quic_endpoint.specs.Emitting.{PayloadView, control_in, place_at, EmitsControl, EmitsStreams, EmitsAt, whole, cut}
+use Rattle.quic_endpoint.specs.Emitting.{PayloadView, control_in, place_at, EmitsStreams}
 use Rattle.quic_endpoint.specs.Receiving.{ReceivesAt, MakesCall, event_of, with_answer_told, done_so, stopped_so}
 use Rattle.quic_endpoint.specs.Reports.{LosesPayloadAt, AcksPayloadAt}
 use Rattle.quic_steps.specs.declared.steps.End.{End}
@@ -52,9 +52,10 @@ use Rattle.quic_exchange.specs.declared.unsettled.Report.TheVariants.{Lost, Ackn
 use Rattle.quic_exchange.specs.Replies.{Answer, handled_reply, event_reply}
 use Rattle.quic_exchange.specs.State.{PairState, OnEnd, peer, the_end, with_end, with_sent}
 use Rattle.quic_exchange.specs.Calls.{OnGiven, ReadsSo, ResetsOn}
-use Rattle.quic_exchange.specs.Steps.{NextOrdinary, Emits, Emitted, HandsOver, Delivers, Reports, SettlesPayload}
+use Rattle.quic_exchange.specs.Steps.{NextOrdinary, HandsOver, Delivers, Reports, SettlesPayload}
 use Rattle.quic_exchange.specs.History.{Past, Flow, FramePlace, after, after_given, after_write, after_chunks, after_finish, past_reset, past_stop, past_read, past_code, past_retried, after_event, after_poll, after_deliver, after_report, with_flow, writes_more, ends_flow, resets_with, stops_with, tells_reset, tells_stop, completes, reads_chunks, reads_last}
 use Rattle.quic_exchange.specs.Gone.{with_all_noted}
+use Rattle.quic_exchange.proofs.Emissions.{EmitsKinds, EmitsSomeAt, whole, cut, EmitsSome, EmittedSome, emitted-some, emitted-part}
 use Rattle.quic_exchange.proofs.Origins.{Origin}
 use Rattle.quic_exchange.proofs.Eras.{Changes, accepts, retries}
 use Rattle.quic_exchange.proofs.OwnDoings.{own-unacked}
@@ -280,8 +281,8 @@ module _ (f : ℕ → Flow) where
     | inr t ↦ entries_notified t.1 k
   ]
 
-  control_notified : (most : ℕ) (e g : EndState) (answer : Result (Unit {0}) OutOfMemory) (bytes : List ℕ) (sent : Pending) → EmitsControl most e answer g bytes sent → Notified e.streams f → Notified g.streams f
-  control_notified most e g answer bytes sent s k = kinds_notified most control_order (place_at e [] nothing s.before) (place_at g bytes sent s.after) answer s.writes k
+  control_notified : (most : ℕ) (e g : EndState) (answer : Result (Unit {0}) OutOfMemory) (bytes : List ℕ) (sent : Pending) → EmitsKinds most e answer g bytes sent → Notified e.streams f → Notified g.streams f
+  control_notified most e g answer bytes sent s k = kinds_notified most s.kinds (place_at e [] nothing s.before) (place_at g bytes sent s.after) answer s.writes k
 
   streams_notified : (most : ℕ) (fair : Bool) (e : EndState) (bytes : List ℕ) (answer : Result (Unit {0}) OutOfMemory) (g : EndState) (payload : PayloadView) → EmitsStreams most fair e bytes answer g payload → Notified e.streams f → Notified g.streams f
   streams_notified most fair e bytes answer g payload s k =
@@ -290,10 +291,10 @@ module _ (f : ℕ → Flow) where
       let P : List StreamEvent → Type 0 = λ events. TellsOf k.made h events f in
       notified-by f (record { from = s.from.from k.made k.calls k.by.from; tells = subst P (sym same) (turns-tell k.made f e.streams.events most fair s.from.turns k.calls k.by.tells) })
 
-  emit_notified : {most : ℕ} {fair : Bool} {e : EndState} {payload : PayloadView} {answer : Result (Unit {0}) OutOfMemory} {g : EndState} → EmitsAt most fair e payload answer g → Notified e.streams f → Notified g.streams f
+  emit_notified : {most : ℕ} {fair : Bool} {e : EndState} {payload : PayloadView} {answer : Result (Unit {0}) OutOfMemory} {g : EndState} → EmitsSomeAt most fair e payload answer g → Notified e.streams f → Notified g.streams f
   emit_notified {most} {fair} {e} {payload} {answer} {g} (whole between bytes control streams) k = streams_notified most fair between bytes answer g payload streams (control_notified most e between (Ok tt) bytes (control_in payload) control k)
-  emit_notified {most} {fair} {e} {payload} {answer} {g} (cut {error} between bytes control none) k =
-      notified-at between.streams g.streams f (ap (λ (x : EndState). x.streams) none.same) (control_notified most e between (Err error) bytes (control_in payload) control k)
+  emit_notified {most} {fair} {e} {payload} {answer} {g} (cut {first} between bytes control none) k =
+      notified-at between.streams g.streams f (ap (λ (x : EndState). x.streams) none.same) (control_notified most e between first bytes (control_in payload) control k)
 
   -- a frame of the peer
   heard_notified : (frame : Frame) (answer : Result ShouldTransmit ReceiveError) (w v : World) → MakesCall w (event_of frame answer) v → Notified w f → Notified v f
@@ -363,10 +364,10 @@ module _ (old new : PairState) (f : End → ℕ → Flow) (k : (who : End) → N
       told_at who g s.read true s.is (reads_notified (f who) id most times ordered (the_end old who).pending s.read.pending read.chunks.items read.last read.transmit.0 (the_end old who).streams s.read.streams (k who) s.reads)
   read_so who id ordered most times g (Err error) s = told_at who g s.asked _ s.is (called who s.asked (Began id ordered (Err error)) tt (λ h. tt) s.begins)
 
-  emits : (who : End) (most : ℕ) (fair : Bool) (answer : Result (Unit {0}) OutOfMemory) (payload : PayloadView) → Emits old who most fair answer payload new → All new
+  emits : (who : End) (most : ℕ) (fair : Bool) (answer : Result (Unit {0}) OutOfMemory) (payload : PayloadView) → EmitsSome old who most fair answer payload new → All new
   emits who most fair answer payload e = called_sent who e.end (old.sent ++ e.sent ∷ []) e.is (emit_notified (f who) e.emits (k who))
 
-  emitted : (who : End) (most : ℕ) (fair : Bool) (reply : Answer) → Emitted old who most fair reply new → All new
+  emitted : (who : End) (most : ℕ) (fair : Bool) (reply : Answer) → EmittedSome old who most fair reply new → All new
   emitted who most fair (Ok (Payload number bytes)) n = emits who most fair (Ok tt) n.payload n.emits
   emitted who most fair (Err NoMemory) n = elim n [ inl same ↦ stays_all same | inr part ↦ emits who most fair part.answer part.payload part.emits ]
   emitted who most fair _ n = absurd n
@@ -485,7 +486,8 @@ module _ (p : Past) (old new : PairState) (k : AreNotified p old) where
   notified-next (steps.SetMaxConcurrent who dir count) reply n =
       plain_end (steps.SetMaxConcurrent who dir count) reply tt who n.end n.is (λ f k. let s = n.does.sets in
       told_at old new f k who n.end s.set (is_ok n.does.answer) s.is (called old new f k who s.set (SetConcurrent dir count n.does.answer) tt (λ h. tt) s.sets))
-  notified-next (steps.Emit who most fair) reply n = emitted old new p.flow k who most fair reply n
+  notified-next (steps.Emit who most fair) reply n = emitted old new p.flow k who most fair reply (emitted-some old new who most fair reply n)
+  notified-next (steps.EmitPart who most fair part) reply n = emitted old new p.flow k who most fair reply (emitted-part old new who most fair part reply n)
   notified-next (steps.Deliver number index) reply n = delivered old new _ (more_known (steps.Deliver number index) reply tt) number index reply n
   notified-next (steps.Lose number) reply n = loses old new _ (more_known (steps.Lose number) reply tt) number reply n
   notified-next (steps.Ack number) reply n = acks old new _ (more_known (steps.Ack number) reply tt) number reply n

@@ -50,7 +50,7 @@ use Rattle.quic_history.proofs.Bare.{IsBare, bare-run, mine, not-mine}
 use Rattle.quic_history.proofs.Renewed.{renewed, permits-no-less}
 use Rattle.quic_link.specs.Endpoints.{LinkedEnd}
 use Rattle.quic_endpoint.specs.Ends.{EndState, WritesAt, with_counts_told_if}
-use Rattle.quic_endpoint.specs.Emitting.{PayloadView, EmitsAt, whole, cut}
+use Rattle.quic_endpoint.specs.Emitting.{PayloadView}
 use Rattle.quic_endpoint.specs.Reports.{LosesPayloadAt, AcksPayloadAt}
 use Rattle.quic_steps.specs.declared.steps.End.{End}
 use Rattle.quic_steps.specs.declared.steps.End.TheVariants.{A, B}
@@ -67,8 +67,9 @@ use Rattle.quic_exchange.specs.Replies.{Answer}
 use Rattle.quic_exchange.specs.State.{PairState, OnEnd, the_end, with_end, with_sent}
 use Rattle.quic_exchange.specs.Calls.{Opens, Accepts, OnGiven, Writes, WritesChunksOrNone, Finishes, ResetsOn, StopsOn, SetsPriorityOn, AsksReset, ReadsOn, ReadsSo, SetsSendWindow, SetsReceiveWindow, SetsMaxConcurrent, Polls}
 use Rattle.quic_exchange.specs.Gone.{IsGone, HaveLeft}
-use Rattle.quic_exchange.specs.Steps.{Emits, Emitted, Reports, SettlesPayload, NextOrdinary, is_server, needs_decision}
+use Rattle.quic_exchange.specs.Steps.{Reports, SettlesPayload, NextOrdinary, is_server, needs_decision}
 use Rattle.quic_exchange.specs.Tale.{Part, Carried, GivenUp, parts_in}
+use Rattle.quic_exchange.proofs.Emissions.{EmitsSomeAt, whole, cut, EmitsSome, EmittedSome, emitted-some, emitted-part}
 use Rattle.quic_exchange.proofs.CallsSetting.{told-streams}
 use Rattle.quic_exchange.proofs.Left.{AreLeft}
 use Rattle.quic_exchange.proofs.Joined.{Seen}
@@ -273,7 +274,7 @@ by_calls : (m : Made) (w : World) (h : List Event) → From m h w → AreDone h 
 by_calls m w h f k = record { calls = h; from = f; own = k.0; on_own = k.1 }
 
 -- a payload is written
-emitted_own : {most : ℕ} {fair : Bool} {e f : EndState} {payload : PayloadView} {answer : Result (Unit {0}) OutOfMemory} (m : Made) → DidOwn m e.streams → EmitsAt most fair e payload answer f → DidOwn m f.streams
+emitted_own : {most : ℕ} {fair : Bool} {e f : EndState} {payload : PayloadView} {answer : Result (Unit {0}) OutOfMemory} (m : Made) → DidOwn m e.streams → EmitsSomeAt most fair e payload answer f → DidOwn m f.streams
 emitted_own {most} {fair} {e} {f} m d (whole between bytes control streams) =
     let written = with_entries control.from.entries d.calls in
     by_calls m f.streams (with_turns most fair streams.from.turns written) (streams.from.from m written (control.from.from m d.calls d.from))
@@ -421,7 +422,7 @@ module _ (m : Made) (client : m.side ≡ Client) (old new : PairState) (did : Di
 
   -- ---- payloads
 
-  emits_own : (most : ℕ) (fair : Bool) (answer : Result (Unit {0}) OutOfMemory) (payload : PayloadView) → Emits old A most fair answer payload new → StaysOwn m old new
+  emits_own : (most : ℕ) (fair : Bool) (answer : Result (Unit {0}) OutOfMemory) (payload : PayloadView) → EmitsSome old A most fair answer payload new → StaysOwn m old new
   emits_own most fair answer payload k =
       let P : PairState → Type 0 = λ v. StaysOwn m old v in
       let Q : Sent → Type 0 = λ s. IsUntaken s ⊎ IsGone s in
@@ -435,7 +436,7 @@ module _ (m : Made) (client : m.side ≡ Client) (old new : PairState) (did : Di
         ];
       })
 
-  own_emit : (most : ℕ) (fair : Bool) (reply : Answer) → Emitted old A most fair reply new → StaysOwn m old new
+  own_emit : (most : ℕ) (fair : Bool) (reply : Answer) → EmittedSome old A most fair reply new → StaysOwn m old new
   own_emit most fair (Ok (Payload number bytes)) k = emits_own most fair (Ok tt) k.payload k.emits
   own_emit most fair (Err NoMemory) k = elim k [
     | inl same ↦ same_pair same
@@ -520,7 +521,8 @@ own-next m c old new d u s told l (steps.SetSendWindow who window) reply by n = 
 own-next m c old new d u s told l (steps.SetReceiveWindow who window) reply by n = own_receive_window m c old new d u window reply (at_client (λ w. NextOrdinary old (steps.SetReceiveWindow w window) reply new) who by n)
 own-next m c old new d u s told l (steps.SetMaxConcurrent who dir count) reply by n = own_concurrent m c old new d u dir count reply (at_client (λ w. NextOrdinary old (steps.SetMaxConcurrent w dir count) reply new) who by n)
 own-next m c old new d u s told l (steps.Poll who) reply by n = own_poll m c old new d u reply (at_client (λ w. NextOrdinary old (steps.Poll w) reply new) who by n)
-own-next m c old new d u s told l (steps.Emit who most fair) reply by n = own_emit m c old new d u most fair reply (at_client (λ w. NextOrdinary old (steps.Emit w most fair) reply new) who by n)
+own-next m c old new d u s told l (steps.Emit who most fair) reply by n = own_emit m c old new d u most fair reply (emitted-some old new A most fair reply (at_client (λ w. NextOrdinary old (steps.Emit w most fair) reply new) who by n))
+own-next m c old new d u s told l (steps.EmitPart who most fair part) reply by n = own_emit m c old new d u most fair reply (emitted-part old new A most fair part reply (at_client (λ w. NextOrdinary old (steps.EmitPart w most fair part) reply new) who by n))
 own-next m c old new d u s told l (steps.Lose number) reply by n = own_lose m c old new d u number reply n
 own-next m c old new d u s told l (steps.Ack number) reply by n = own_ack m c old new d u s told l number reply n
 own-next m c old new d u s told l (steps.Deliver number index) reply by n = cc

@@ -16,7 +16,6 @@ use Rattle.quic_writing.specs.Appended.{frame_with}
 use Rattle.quic_history.specs.World.{World}
 use Rattle.quic_history.specs.Carrying.{with_writer}
 use Rattle.quic_history.specs.History.{From}
-use Rattle.quic_streams.specs.Payload.{control_order}
 use Rattle.quic_streams.specs.Settling.{SentView}
 use Rattle.quic_streams.specs.Sent.{sent_view}
 use Rattle.quic_streams.specs.Transmitting.{end_writer}
@@ -25,7 +24,7 @@ use Rattle.quic_link.specs.Asked.{AreAsked}
 use Rattle.quic_link.proofs.Basics.{either-of}
 use Rattle.quic_link.proofs.Joint.{agrees}
 use Rattle.quic_endpoint.specs.Ends.{EndState}
-use Rattle.quic_endpoint.specs.Emitting.{PayloadView, control_in, place_at, EmitsStreams, EmitsNoStream, EmitsAt, whole, cut}
+use Rattle.quic_endpoint.specs.Emitting.{PayloadView, control_in, place_at, EmitsStreams, EmitsNoStream}
 use Rattle.quic_steps.specs.declared.steps.End.{End}
 use Rattle.quic_exchange.proofs.Origins.{Origin}
 use Rattle.quic_steps.specs.declared.steps.Step.TheVariants as steps
@@ -36,8 +35,9 @@ use Rattle.quic_exchange.specs.Sent.{Sent}
 use Rattle.quic_exchange.specs.Payloads.{SentText}
 use Rattle.quic_exchange.specs.Replies.{Answer}
 use Rattle.quic_exchange.specs.State.{PairState, peer}
-use Rattle.quic_exchange.specs.Steps.{IsSentBy, Emits, Emitted}
+use Rattle.quic_exchange.specs.Steps.{IsSentBy}
 use Rattle.quic_exchange.specs.History.{Past, after}
+use Rattle.quic_exchange.proofs.Emissions.{EmitsSomeAt, whole, cut, EmitsSome, EmittedSome}
 use Rattle.quic_exchange.proofs.Joined.{Stands, IsPayloadOf, ArePayloadsOf, IsLike, Seen, Sees, Joined}
 use Rattle.quic_exchange.proofs.Flips.{peer-other, joined-by}
 use Rattle.quic_exchange.proofs.KeptFrames.{KeptSent, HearsNothing, hears-both, kept-as}
@@ -121,11 +121,11 @@ module _ (x y : LinkedEnd) (payload : PayloadView) (between f : EndState) (bytes
         wrote = t.wrote;
       }
 
-emptied : {most : ℕ} {fair : Bool} {e f : EndState} {payload : PayloadView} {answer : Result (Unit {0}) OutOfMemory} (x y : LinkedEnd) → Linked x y → Stands x e → EmitsAt most fair e payload answer f → Emptied x y payload f
+emptied : {most : ℕ} {fair : Bool} {e f : EndState} {payload : PayloadView} {answer : Result (Unit {0}) OutOfMemory} (x y : LinkedEnd) → Linked x y → Stands x e → EmitsSomeAt most fair e payload answer f → Emptied x y payload f
 emptied {most} {fair} {e} {f} {payload} x y l s (whole between bytes control streams) =
-    streams_written x y payload between f bytes control.after (page-control x y most e control.before control_order (place_at between bytes (control_in payload) control.after) (Ok tt) l s control.writes) streams
-emptied {most} {fair} {e} {f} {payload} x y l s (cut {error} between bytes control none) =
-    no_stream_written x y payload between f bytes control.after (page-control x y most e control.before control_order (place_at between bytes (control_in payload) control.after) (Err error) l s control.writes) none
+    streams_written x y payload between f bytes control.after (page-control x y most e control.before control.kinds (place_at between bytes (control_in payload) control.after) (Ok tt) l s control.writes) streams
+emptied {most} {fair} {e} {f} {payload} x y l s (cut {first} between bytes control none) =
+    no_stream_written x y payload between f bytes control.after (page-control x y most e control.before control.kinds (place_at between bytes (control_in payload) control.after) first l s control.writes) none
 
 -- ---- the payload is sent
 
@@ -149,7 +149,7 @@ payload_sent x y who payload f s t i =
 pub stay_before : (sent : List Sent) (s : Sent) → StaySent sent (sent ++ s ∷ [])
 stay_before sent s k t h = (t, slice_get-append_left sent (s ∷ []) k t h, refl, refl)
 
-pub seen-emits : (p : Past) (who : End) (old new : PairState) (x y : LinkedEnd) (most : ℕ) (fair : Bool) (answer : Result (Unit {0}) OutOfMemory) (payload : PayloadView) → Seen p who old x y → Emits old who most fair answer payload new → Sees p who new x y
+pub seen-emits : (p : Past) (who : End) (old new : PairState) (x y : LinkedEnd) (most : ℕ) (fair : Bool) (answer : Result (Unit {0}) OutOfMemory) (payload : PayloadView) → Seen p who old x y → EmitsSome old who most fair answer payload new → Sees p who new x y
 seen-emits p who old new x y most fair answer payload s k = seen-moved p who old new x y t.end k.end s t.linked t.keeps t.here p sents (tells-same p) stay own others heard kept_there kept_here k.is
   where
     t : Emptied x y payload k.end
@@ -185,7 +185,7 @@ seen-emits p who old new x y most fair answer payload s k = seen-moved p who old
 
 -- ---- all of these steps
 
-pub seen-emit : (p : Past) (who : End) (old new : PairState) (x y : LinkedEnd) (most : ℕ) (fair : Bool) (reply : Answer) → Seen p who old x y → Emitted old who most fair reply new → Sees (after p (steps.Emit who most fair) reply) who new x y
+pub seen-emit : (p : Past) (who : End) (old new : PairState) (x y : LinkedEnd) (most : ℕ) (fair : Bool) (reply : Answer) → Seen p who old x y → EmittedSome old who most fair reply new → Sees (after p (steps.Emit who most fair) reply) who new x y
 seen-emit p who old new x y most fair (Ok (Payload number bytes)) s k = seen-emits p who old new x y most fair (Ok tt) k.payload s k.emits
 seen-emit p who old new x y most fair (Err NoMemory) s k = elim k [
   | inl is ↦ seen-same p who old new x y s is
@@ -193,5 +193,5 @@ seen-emit p who old new x y most fair (Err NoMemory) s k = elim k [
 ]
 seen-emit p who old new x y most fair _ s k = absurd k
 
-pub joined-emits : (a b : Origin) (p : Past) (old new : PairState) (who : End) (most : ℕ) (fair : Bool) (reply : Answer) → Joined a b p old → Emitted old who most fair reply new → Joined a b p new
+pub joined-emits : (a b : Origin) (p : Past) (old new : PairState) (who : End) (most : ℕ) (fair : Bool) (reply : Answer) → Joined a b p old → EmittedSome old who most fair reply new → Joined a b p new
 joined-emits a b p old new who most fair reply j k = joined-by a b p p who old new j (λ x y s. seen-emit p who old new x y most fair reply s k)

@@ -18,11 +18,11 @@ use Rattle.quic_history.specs.Control.{SettlesEntry}
 use Rattle.quic_history.specs.declared.control.ControlKind.{ControlKind}
 use Rattle.quic_history.specs.declared.control.ControlKind.TheVariants as kinds
 use Rattle.quic_history.proofs.SendSteps.{either-way}
-use Rattle.quic_streams.specs.Payload.{PayloadPlace, SettlesSome, WritesKinds, control_order, none as no_entry, more as one_entry}
+use Rattle.quic_streams.specs.Payload.{PayloadPlace, SettlesSome, WritesKinds, none as no_entry, more as one_entry}
 use Rattle.quic_streams.specs.Settling.{SentView, EachInOrder, LosesMeta}
 use Rattle.quic_streams.specs.Sent.{sent_view, report_view}
 use Rattle.quic_endpoint.specs.Ends.{EndState}
-use Rattle.quic_endpoint.specs.Emitting.{PayloadView, control_in, place_at, EmitsControl, EmitsAt, whole, cut}
+use Rattle.quic_endpoint.specs.Emitting.{PayloadView, control_in, place_at}
 use Rattle.quic_endpoint.specs.Reports.{LosesPayloadAt}
 use Rattle.quic_steps.specs.declared.steps.End.{End}
 use Rattle.quic_steps.specs.declared.steps.End.TheVariants.{A, B}
@@ -38,9 +38,10 @@ use Rattle.quic_exchange.specs.declared.phase.Going.TheVariants.{On, Over, Strea
 use Rattle.quic_exchange.specs.Replies.{Answer, event_reply}
 use Rattle.quic_exchange.specs.State.{PairState, OnEnd, the_end, with_end, with_sent}
 use Rattle.quic_exchange.specs.Calls.{Polls}
-use Rattle.quic_exchange.specs.Steps.{NextOrdinary, Emitted, SettlesPayload}
+use Rattle.quic_exchange.specs.Steps.{NextOrdinary, SettlesPayload}
 use Rattle.quic_exchange.specs.History.{History}
 use Rattle.quic_exchange.specs.Settling.{step_at, going_of, is_quiet_at, behind_reports, phase_after, after_accepting, after_streams, after_reading, after_polling, after_emits, after_frame, IsSoughtFor, FollowsPhases, IsSettling, none as follows_none, more as follows_more}
+use Rattle.quic_exchange.proofs.Emissions.{EmitsKinds, EmitsSomeAt, whole, cut, EmittedSome, emitted-some}
 use Rattle.quic_exchange.proofs.Ordinary.{ordinary-at}
 
 -- an end is to be told nothing
@@ -95,12 +96,12 @@ kinds_events most (kind ∷ ks) a b answer s = elim s [
   | inr t ↦ some_events t.1
 ]
 
-control_events : (most : ℕ) (e g : EndState) (answer : Result (Unit {0}) OutOfMemory) (bytes : List ℕ) (sent : Pending) → EmitsControl most e answer g bytes sent → g.streams.events ≡ e.streams.events
-control_events most e g answer bytes sent s = kinds_events most control_order (place_at e [] nothing s.before) (place_at g bytes sent s.after) answer s.writes
+control_events : (most : ℕ) (e g : EndState) (answer : Result (Unit {0}) OutOfMemory) (bytes : List ℕ) (sent : Pending) → EmitsKinds most e answer g bytes sent → g.streams.events ≡ e.streams.events
+control_events most e g answer bytes sent s = kinds_events most s.kinds (place_at e [] nothing s.before) (place_at g bytes sent s.after) answer s.writes
 
-emit_events : {most : ℕ} {fair : Bool} {e : EndState} {payload : PayloadView} {answer : Result (Unit {0}) OutOfMemory} {g : EndState} → EmitsAt most fair e payload answer g → g.streams.events ≡ e.streams.events
+emit_events : {most : ℕ} {fair : Bool} {e : EndState} {payload : PayloadView} {answer : Result (Unit {0}) OutOfMemory} {g : EndState} → EmitsSomeAt most fair e payload answer g → g.streams.events ≡ e.streams.events
 emit_events {most} {fair} {e} {payload} {answer} {g} (whole between bytes control streams) = ap (λ (w : World). w.events) streams.writes.others ∙ control_events most e between (Ok tt) bytes (control_in payload) control
-emit_events {most} {fair} {e} {payload} {answer} {g} (cut {error} between bytes control none) = ap (λ (x : EndState). x.streams.events) none.same ∙ control_events most e between (Err error) bytes (control_in payload) control
+emit_events {most} {fair} {e} {payload} {answer} {g} (cut {first} between bytes control none) = ap (λ (x : EndState). x.streams.events) none.same ∙ control_events most e between first bytes (control_in payload) control
 
 lost_events : (xs : List StreamMeta) (w v : World) → EachInOrder LosesMeta w xs v → v.events ≡ w.events
 lost_events [] w v s = ap (λ (u : World). u.events) s
@@ -132,7 +133,7 @@ module _ (old new : PairState) where
   stays_so : new ≡ old → (end : End) → (the_end new end).streams.events ≡ (the_end old end).streams.events
   stays_so e end = ap (λ (v : PairState). (the_end v end).streams.events) e
 
-  emitted_events : (who : End) (most : ℕ) (fair : Bool) (reply : Answer) → Emitted old who most fair reply new → (end : End) → (the_end new end).streams.events ≡ (the_end old end).streams.events
+  emitted_events : (who : End) (most : ℕ) (fair : Bool) (reply : Answer) → EmittedSome old who most fair reply new → (end : End) → (the_end new end).streams.events ≡ (the_end old end).streams.events
   emitted_events who most fair (Ok (Payload number bytes)) n = same_events who n.emits.end _ (emit_events n.emits.emits) n.emits.is
   emitted_events who most fair (Err NoMemory) n = elim n [ inl same ↦ stays_so same | inr part ↦ same_events who part.emits.end _ (emit_events part.emits.emits) part.emits.is ]
   emitted_events who most fair _ n = absurd n
@@ -244,8 +245,8 @@ module _ (old new : PairState) where
   polled-next (phase.Read who id ordered) r reply n going e = free_reading who id ordered going new
   polled-next (phase.Poll A) r reply n going e = poll_a going reply n e
   polled-next (phase.Poll B) r reply n going e = poll_b going reply r n e
-  polled-next phase.EmitOfA r reply n going e = none_at old new (emitted_events old new A (2 ^ 64 - 1) true reply n) r
-  polled-next (phase.EmitOfB first empty quiet) r reply n going e = emit_b first empty going (length old.sent) (quiet && is_quiet_at new.sent (length old.sent)) (none_at old new (emitted_events old new B (2 ^ 64 - 1) true reply n) r)
+  polled-next phase.EmitOfA r reply n going e = none_at old new (emitted_events old new A (2 ^ 64 - 1) true reply (emitted-some old new A (2 ^ 64 - 1) true reply n)) r
+  polled-next (phase.EmitOfB first empty quiet) r reply n going e = emit_b first empty going (length old.sent) (quiet && is_quiet_at new.sent (length old.sent)) (none_at old new (emitted_events old new B (2 ^ 64 - 1) true reply (emitted-some old new B (2 ^ 64 - 1) true reply n)) r)
   polled-next (phase.Deliver payload frame following quiet) r reply n going e = free_frame payload frame following quiet going new
   polled-next (phase.Drop first) r reply n going e = none_at old new (loses_events old new first reply n) r
 

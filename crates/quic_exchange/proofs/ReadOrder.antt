@@ -49,6 +49,7 @@ use Rattle.quic_exchange.specs.Steps.{NextOrdinary, SettlesPayload}
 use Rattle.quic_exchange.specs.History.{Past, Flow, History, past_of, past_read, after, after_poll, after_event, after_deliver, after_report, reads_last, reads_chunks}
 use Rattle.quic_exchange.proofs.Eras.{EraFrom, next}
 use Rattle.quic_exchange.specs.Settling.{step_at, going_of, going_reading, phase_after, phase_after_report, behind_reports, is_quiet_at, after_accepting, after_accept, after_streams, after_reading, after_polling, after_emits, after_frame, FollowsPhases, IsSoughtFor, none as follows_none, more as follows_more}
+use Rattle.quic_exchange.proofs.Emissions.{emitted-some}
 use Rattle.quic_exchange.proofs.Flips.{seen-as}
 use Rattle.quic_exchange.proofs.Beside.{beside}
 use Rattle.quic_exchange.proofs.GivenSo.{known-from, given_counts}
@@ -593,9 +594,9 @@ read_after a b h old new f (phase.Accept who dir) reply n going e ready r = read
 read_after a b h old new f (phase.Read who id ordered) reply n going e ready r = has-read-one a b h old new f who id ordered reply n r going e
 read_after a b h old new f (phase.Poll who) reply n going e ready r = read_polling (past_of h) _ old.sent new.sent (keeps_poll (past_of h) old new who reply n) who going r
 read_after a b h old new f phase.EmitOfA reply n going e ready r =
-    goes_on_read (past_of h) (past_of h) old.sent new.sent phase.EmitOfA (phase.EmitOfB (length old.sent) _ _) (keeps_stay (past_of h) old new (stay-emitted old new A (2 ^ 64 - 1) true reply n)) tt (λ end id i. i) r
+    goes_on_read (past_of h) (past_of h) old.sent new.sent phase.EmitOfA (phase.EmitOfB (length old.sent) _ _) (keeps_stay (past_of h) old new (stay-emitted old new A (2 ^ 64 - 1) true reply (emitted-some old new A (2 ^ 64 - 1) true reply n))) tt (λ end id i. i) r
 read_after a b h old new f (phase.EmitOfB first empty quiet) reply n going e ready r =
-    read_emits (past_of h) (past_of h) old.sent new.sent (keeps_stay (past_of h) old new (stay-emitted old new B (2 ^ 64 - 1) true reply n)) first empty quiet going (length old.sent) (quiet && is_quiet_at new.sent (length old.sent)) r
+    read_emits (past_of h) (past_of h) old.sent new.sent (keeps_stay (past_of h) old new (stay-emitted old new B (2 ^ 64 - 1) true reply (emitted-some old new B (2 ^ 64 - 1) true reply n))) first empty quiet going (length old.sent) (quiet && is_quiet_at new.sent (length old.sent)) r
 read_after a b h old new f (phase.Deliver payload frame other quiet) reply n going e ready r =
     read_frame (past_of h) _ old.sent new.sent payload frame other quiet going (λ q. let P : Bool → Type 0 = λ x. IsStreamlessIf x old.sent payload in keeps_deliver (past_of h) old new payload frame reply n (subst P q ready.0)) r
 read_after a b h old new f (phase.Drop first) reply n going e ready r = goes_on_read (past_of h) _ old.sent new.sent (phase.Drop first) (phase.Drop first) (keeps_lost (past_of h) old new first reply n) tt (λ end id i. i) r

@@ -28,6 +28,7 @@ use Rattle.quic_exchange.specs.Steps.{HasPayload, NextOrdinary, Delivers, Report
 use Rattle.quic_exchange.specs.History.{Past, History, FramePlace, past_of}
 use Rattle.quic_exchange.proofs.Eras.{EraFrom}
 use Rattle.quic_exchange.specs.Refused.{IsTaken, IsKnownSo, IsFoundSo, HasBytes, Always, HasAllAccepted, HasOneUnaccepted, Needs, Misses, IsServedSo, IsReportedSo, IsRefusedIn}
+use Rattle.quic_exchange.proofs.Emissions.{emitted-some, emitted-part}
 use Rattle.quic_exchange.proofs.Lists.{slice_get-within, slice_get-there}
 use Rattle.quic_exchange.proofs.Marks.{AreMarkedSo, marks-from}
 use Rattle.quic_exchange.proofs.Settled.{AreSettledSo, settled-for, unsettled-for, settled-from}
@@ -145,7 +146,8 @@ refused_by waits p old new (steps.SetSendWindow who window) reply t m u k n = se
 refused_by waits p old new (steps.SetReceiveWindow who window) reply t m u k n = served_so old new who reply n (λ e f d. served-receive-window d)
 refused_by waits p old new (steps.SetMaxConcurrent who dir count) reply t m u k n = served_so old new who reply n (λ e f d. served-max-concurrent d)
 refused_by waits p old new (steps.Poll who) reply t m u k n = served_so old new who reply n (λ e f d. served-polls d)
-refused_by waits p old new (steps.Emit who most fair) reply t m u k n = served-emitted old new who most fair reply n
+refused_by waits p old new (steps.Emit who most fair) reply t m u k n = served-emitted old new who most fair reply (emitted-some old new who most fair reply n)
+refused_by waits p old new (steps.EmitPart who most fair part) reply t m u k n = served-emitted old new who most fair reply (emitted-part old new who most fair part reply n)
 refused_by waits p old new (steps.Deliver number index) reply t m u k n = delivers_so old new number index reply n
 refused_by waits p old new (steps.Lose number) reply t m u k n = settles_so p old new t m u number Lost LosesPayloadAt reply n
 refused_by waits p old new (steps.Ack number) reply t m u k n = settles_so p old new t m u number Acknowledged AcksPayloadAt reply n

@@ -31,8 +31,9 @@ use Rattle.quic_exchange.specs.declared.unsettled.Report.TheVariants.{Lost, Ackn
 use Rattle.quic_exchange.specs.Replies.{Answer, wants_memory, accepted_reply, opened_reply, unwritten_reply, written_reply, chunks_reply, unfinished_reply, finished_reply, unhandled_reply, handled_reply, code_reply, unread_reply, read_reply, event_reply, done_reply, received_reply}
 use Rattle.quic_exchange.specs.State.{PairState, OnEnd, the_end, with_end}
 use Rattle.quic_exchange.specs.Calls.{Opens, Accepts, OnGiven, Writes, WritesChunksOrNone, Finishes, ResetsOn, StopsOn, SetsPriorityOn, AsksReset, ReadsOn, SetsReceiveWindow, SetsMaxConcurrent, Polls}
-use Rattle.quic_exchange.specs.Steps.{NextOrdinary, Emitted, HandsOver, Delivers, SettlesPayload}
+use Rattle.quic_exchange.specs.Steps.{NextOrdinary, HandsOver, Delivers, SettlesPayload}
 use Rattle.quic_exchange.specs.Refused.{IsRefused, IsTaken}
+use Rattle.quic_exchange.proofs.Emissions.{EmittedSome, emitted-some, emitted-part}
 
 -- ---- replies
 
@@ -154,7 +155,7 @@ module _ {e f : EndState} {reply : Answer} where
   pub served-polls : Polls e reply f → IsTaken reply
   served-polls o = served_at reply (event_reply o.event) o.reply_is (served_event o.event)
 
-pub served-emitted : (old new : PairState) (who : End) (most : ℕ) (fair : Bool) (reply : Answer) → Emitted old who most fair reply new → IsTaken reply
+pub served-emitted : (old new : PairState) (who : End) (most : ℕ) (fair : Bool) (reply : Answer) → EmittedSome old who most fair reply new → IsTaken reply
 served-emitted old new who most fair (Ok (Payload number bytes)) k = λ h. h
 served-emitted old new who most fair (Err NoMemory) k = λ h. h
 served-emitted old new who most fair _ k = absurd k
@@ -211,7 +212,8 @@ module _ (old new : PairState) where
   refused-stays (steps.SetReceiveWindow who window) reply n r = served_stays old new reply r who n (λ e f k. served-receive-window k)
   refused-stays (steps.SetMaxConcurrent who dir count) reply n r = served_stays old new reply r who n (λ e f k. served-max-concurrent k)
   refused-stays (steps.Poll who) reply n r = served_stays old new reply r who n (λ e f k. served-polls k)
-  refused-stays (steps.Emit who most fair) reply n r = absurd (served-emitted old new who most fair reply n r)
+  refused-stays (steps.Emit who most fair) reply n r = absurd (served-emitted old new who most fair reply (emitted-some old new who most fair reply n) r)
+  refused-stays (steps.EmitPart who most fair part) reply n r = absurd (served-emitted old new who most fair reply (emitted-part old new who most fair part reply n) r)
   refused-stays (steps.Deliver number index) reply n r = delivers_stay number index reply r n
   refused-stays (steps.Lose number) reply n r = settles_stay number Lost LosesPayloadAt reply r n
   refused-stays (steps.Ack number) reply n r = settles_stay number Acknowledged AcksPayloadAt reply r n

@@ -28,10 +28,11 @@ use Rattle.quic_exchange.specs.Unsettled.{goes_on, may_report, other_report, uns
 use Rattle.quic_exchange.specs.Replies.{Answer, report_reply}
 use Rattle.quic_exchange.specs.State.{PairState, OnEnd}
 use Rattle.quic_exchange.specs.Gone.{IsGone}
-use Rattle.quic_exchange.specs.Steps.{NextOrdinary, Emits, Emitted, SentAfter, Delivers, Reports, SettlesPayload}
+use Rattle.quic_exchange.specs.Steps.{NextOrdinary, SentAfter, Delivers, Reports, SettlesPayload}
 use Rattle.quic_exchange.specs.History.{Past, History, after, after_deliver, after_report, past_of}
 use Rattle.quic_exchange.proofs.Eras.{EraFrom, begun, next, changed, Changes, accepts, retries}
 use Rattle.quic_exchange.specs.Refused.{IsSettledFor}
+use Rattle.quic_exchange.proofs.Emissions.{EmitsSome, EmittedSome, emitted-some, emitted-part}
 use Rattle.quic_exchange.proofs.Lists.{slice_get-push, slice_get-slice_set, slice_get-split, slice_get-within, slice_set-length}
 use Rattle.quic_exchange.proofs.Marks.{sent_on_end}
 use Rattle.quic_exchange.proofs.Beside.{IsOfNoPayload, beside, deliver-settled, deliver-begun}
@@ -222,11 +223,11 @@ module _ (p : Past) (old new : PairState) (k : AreSettledSo p.settled p.begun ol
   settled_stay : new ≡ old → AreSettledSo p.settled p.begun new.sent
   settled_stay e = settled_as p.settled p.settled p.begun p.begun old.sent new.sent refl refl (ap (λ (v : PairState). v.sent) e) k
 
-  settled_emits : {who : End} {most : ℕ} {fair : Bool} {answer : Result (Unit {0}) OutOfMemory} {payload : PayloadView} → Emits old who most fair answer payload new → AreSettledSo p.settled p.begun new.sent
+  settled_emits : {who : End} {most : ℕ} {fair : Bool} {answer : Result (Unit {0}) OutOfMemory} {payload : PayloadView} → EmitsSome old who most fair answer payload new → AreSettledSo p.settled p.begun new.sent
   settled_emits {who} {most} {fair} {answer} {payload} e =
       settled_as p.settled p.settled p.begun p.begun (old.sent ++ e.sent ∷ []) new.sent refl refl (ap (λ (v : PairState). v.sent) e.is) (settled_push p.settled p.begun old.sent k e.sent e.sent_is.begun (λ none. none-some payload.sent (sym (ap (option_map sent_view) none) ∙ e.sent_is.rest)))
 
-  settled_emitted : (who : End) (most : ℕ) (fair : Bool) (reply : Answer) → Emitted old who most fair reply new → AreSettledSo p.settled p.begun new.sent
+  settled_emitted : (who : End) (most : ℕ) (fair : Bool) (reply : Answer) → EmittedSome old who most fair reply new → AreSettledSo p.settled p.begun new.sent
   settled_emitted who most fair (Ok (Payload number bytes)) e = settled_emits e.emits
   settled_emitted who most fair (Err NoMemory) e = elim e [ inl is ↦ settled_stay is | inr t ↦ settled_emits t.emits ]
   settled_emitted who most fair _ e = absurd e
@@ -286,7 +287,8 @@ module _ (p : Past) (old new : PairState) (reply : Answer) (k : AreSettledSo p.s
   settled_next (steps.SetReceiveWindow who window) n = settled_end who (steps.SetReceiveWindow who window) tt n
   settled_next (steps.SetMaxConcurrent who dir count) n = settled_end who (steps.SetMaxConcurrent who dir count) tt n
   settled_next (steps.Poll who) n = settled_end who (steps.Poll who) tt n
-  settled_next (steps.Emit who most fair) n = settled_emitted p old new k who most fair reply n
+  settled_next (steps.Emit who most fair) n = settled_emitted p old new k who most fair reply (emitted-some old new who most fair reply n)
+  settled_next (steps.EmitPart who most fair part) n = settled_emitted p old new k who most fair reply (emitted-part old new who most fair part reply n)
   settled_next (steps.Deliver number index) n = settled_delivers p old new k number index reply n
   settled_next (steps.Lose number) n = settled_settles p old new k number Lost LosesPayloadAt reply n
   settled_next (steps.Ack number) n = settled_settles p old new k number Acknowledged AcksPayloadAt reply n

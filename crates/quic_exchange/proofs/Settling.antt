@@ -48,6 +48,7 @@ use Rattle.quic_exchange.specs.Due.{IsFull}
 use Rattle.quic_exchange.specs.Tale.{Part, Carried, GivenUp, Tales}
 use Rattle.quic_exchange.specs.Runs.{StepsBy, more}
 use Rattle.quic_exchange.specs.Settling.{step_at, going_of, going_sending, is_nothing_more, is_quiet_at, behind_reports, phase_after, after_accepting, after_streams, after_reading, after_polling, after_emits, after_frame, AreSettledIn, IsAllReported, IsIdle, AreIdle, LeavesNoRest, IsSoughtFor, IsSettledAt, TakesPhase, TakesPhaseOrNone, FollowsPhases, IsCutOff, IsSettling, none as follows_none, more as follows_more}
+use Rattle.quic_exchange.proofs.Emissions.{emitted-some}
 use Rattle.quic_exchange.proofs.Lists.{slice_get-push, slice_get-slice_set, slice_get-within}
 use Rattle.quic_exchange.proofs.Left.{IsLeft}
 use Rattle.quic_exchange.proofs.PayloadKnows.{StaySent}
@@ -235,7 +236,7 @@ module _ (a b : Origin) (h : History) (old new : PairState) (f : EraFrom a b h o
 
   -- the payload that was sent has no STREAM frame where it has nothing for a reader
   fresh_if : (who : End) (going : Going) (reply : Answer) → NextOrdinary old (steps.Emit who most true) reply new → going_of reply ≡ Some going → (last_quiet : Bool) → is_quiet_at new.sent (length old.sent) ≡ last_quiet → IsStreamlessIf last_quiet new.sent (length old.sent)
-  fresh_if who going reply n e true quiet = fresh-streamless a b h old new f who most true quiet reply n going e
+  fresh_if who going reply n e true quiet = fresh-streamless a b h old new f who most true quiet reply (emitted-some old new who most true reply n) going e
   fresh_if who going reply n e false quiet = tt
 
   ready_emit_a : (going : Going) (reply : Answer) → NextOrdinary old (steps.Emit A most true) reply new → going_of reply ≡ Some going → IsReadyFor (phase.EmitOfB (length old.sent) (is_nothing_more going) (is_quiet_at new.sent (length old.sent))) new
@@ -254,7 +255,7 @@ module _ (a b : Origin) (h : History) (old new : PairState) (f : EraFrom a b h o
 
   ready_both : (first : ℕ) (quiet : Bool) (going : Going) (reply : Answer) → IsStreamlessIf quiet old.sent first → NextOrdinary old (steps.Emit B most true) reply new → going_of reply ≡ Some going → IsReadyFor (phase.Deliver first 0 (Some (length old.sent)) (quiet && is_quiet_at new.sent (length old.sent))) new
   ready_both first quiet going reply l n e =
-      both_if first quiet (is_quiet_at new.sent (length old.sent)) (streamless_if quiet old.sent new.sent first (stay-emitted old new B most true reply n) l) (fresh_if B going reply n e (is_quiet_at new.sent (length old.sent)) refl)
+      both_if first quiet (is_quiet_at new.sent (length old.sent)) (streamless_if quiet old.sent new.sent first (stay-emitted old new B most true reply (emitted-some old new B most true reply n)) l) (fresh_if B going reply n e (is_quiet_at new.sent (length old.sent)) refl)
 
   ready_emits : (first : ℕ) (empty quiet : Bool) (going : Going) (reply : Answer) → IsReadyFor (phase.EmitOfB first empty quiet) old → NextOrdinary old (steps.Emit B most true) reply new → going_of reply ≡ Some going → IsReadyFor (after_emits first empty going (length old.sent) (quiet && is_quiet_at new.sent (length old.sent))) new
   ready_emits first true quiet Over reply r n e = ready_emit_b first reply r.0 n e

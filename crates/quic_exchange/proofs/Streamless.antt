@@ -29,11 +29,12 @@ use Rattle.quic_exchange.specs.Unsettled.{is_quiet, unsettled_after}
 use Rattle.quic_exchange.specs.Payloads.{SentText, IsFrameAt, metas_in}
 use Rattle.quic_exchange.specs.Replies.{Answer}
 use Rattle.quic_exchange.specs.State.{PairState}
-use Rattle.quic_exchange.specs.Steps.{Emits, Emitted, HandsOver, SentAfter, Delivers, Reports, SettlesPayload}
+use Rattle.quic_exchange.specs.Steps.{HandsOver, SentAfter, Delivers, Reports, SettlesPayload}
 use Rattle.quic_exchange.specs.History.{Past, History, FramePlace, after_deliver, is_kept_by}
 use Rattle.quic_exchange.specs.Headline.{IsStreamFrom}
 use Rattle.quic_exchange.proofs.Eras.{EraFrom}
 use Rattle.quic_exchange.specs.Settling.{going_of, is_quiet_at}
+use Rattle.quic_exchange.proofs.Emissions.{EmitsSome, EmittedSome}
 use Rattle.quic_exchange.proofs.PayloadKnows.{StaySent, stay-sent}
 use Rattle.quic_exchange.proofs.PayloadEmits.{stay_before}
 use Rattle.quic_exchange.proofs.DeliverMarks.{stay_marked}
@@ -49,7 +50,7 @@ module _ (old new : PairState) where
   pub stay-same : new ≡ old → StaySent old.sent new.sent
   stay-same e = subst (StaySent old.sent) (sym (ap (λ (v : PairState). v.sent) e)) (stay-sent old.sent)
 
-  pub stay-emitted : (who : End) (most : ℕ) (fair : Bool) (reply : Answer) → Emitted old who most fair reply new → StaySent old.sent new.sent
+  pub stay-emitted : (who : End) (most : ℕ) (fair : Bool) (reply : Answer) → EmittedSome old who most fair reply new → StaySent old.sent new.sent
   stay-emitted who most fair (Ok (Payload number bytes)) e = subst (StaySent old.sent) (sym (ap (λ (v : PairState). v.sent) e.emits.is)) (stay_before old.sent e.emits.sent)
   stay-emitted who most fair (Err NoMemory) e = elim e [ inl none ↦ stay-same none | inr part ↦ subst (StaySent old.sent) (sym (ap (λ (v : PairState). v.sent) part.emits.is)) (stay_before old.sent part.emits.sent) ]
   stay-emitted who most fair _ e = absurd e
@@ -116,7 +117,7 @@ no_stream (_ ∷ fs) e zero s got = cc
 no_stream (_ ∷ fs) e (suc index) s got = no_stream fs e index s got
 
 module _ (a b : Origin) (h : History) (old new : PairState) (f : EraFrom a b h old) (who : End) (most : ℕ) (fair : Bool) (quiet : is_quiet_at new.sent (length old.sent) ≡ true) where
-  fresh_by : (payload : PayloadView) → Emits old who most fair (Ok tt) payload new → IsStreamless new.sent (length old.sent)
+  fresh_by : (payload : PayloadView) → EmitsSome old who most fair (Ok tt) payload new → IsStreamless new.sent (length old.sent)
   fresh_by payload k =
       let r = (grown-from f).recounted in
       let c = payload_counted (made_at a b who) (r.tales.of who) (r.counted who) k.emits in
@@ -132,7 +133,7 @@ module _ (a b : Origin) (h : History) (old new : PairState) (f : EraFrom a b h o
             no_stream c.all none index s (ap (λ (l : List Frame). slice_get l index) (sym all_same) ∙ at.at);
       }
 
-  pub fresh-streamless : (reply : Answer) → Emitted old who most fair reply new → (going : Going) → going_of reply ≡ Some going → IsStreamless new.sent (length old.sent)
+  pub fresh-streamless : (reply : Answer) → EmittedSome old who most fair reply new → (going : Going) → going_of reply ≡ Some going → IsStreamless new.sent (length old.sent)
   fresh-streamless (Ok (Payload number bytes)) n going e = fresh_by n.payload n.emits
   fresh-streamless (Err NoMemory) n going e = absurd (none-some going e)
   fresh-streamless _ n going e = absurd n

@@ -74,6 +74,11 @@ tells-once old new t u v (steps.Emit who most fair) (Err error) k l = elim k [
   | inl same_as ↦ elim l [ inl also ↦ same_as.1 ∙ sym also.1 | inr one ↦ (let x = same_as.0 in let y = one.0 in absurd (omega (arith, x, y))) ]
   | inr one ↦ elim l [ inl same_as ↦ (let x = same_as.0 in let y = one.0 in absurd (omega (arith, x, y))) | inr also ↦ sent_once t u v new who one.1 also.1 ]
 ]
+tells-once old new t u v (steps.EmitPart who most fair part) (Ok (Payload number bytes)) k l = sent_once t u v new who k.0 l.0
+tells-once old new t u v (steps.EmitPart who most fair part) (Err error) k l = elim k [
+  | inl same_as ↦ elim l [ inl also ↦ same_as.1 ∙ sym also.1 | inr one ↦ (let x = same_as.0 in let y = one.0 in absurd (omega (arith, x, y))) ]
+  | inr one ↦ elim l [ inl same_as ↦ (let x = same_as.0 in let y = one.0 in absurd (omega (arith, x, y))) | inr also ↦ sent_once t u v new who one.1 also.1 ]
+]
 tells-once old new t u v (steps.Deliver number index) (Ok Done) k l = heard_once t u v old (number, index) k l
 tells-once old new t u v (steps.Deliver number index) (Ok DoneTransmit) k l = heard_once t u v old (number, index) k l
 tells-once old new t u v (steps.Lose number) (Ok Done) k l = parts_once t u v new number _ k.some l.some

@@ -37,10 +37,11 @@ use Rattle.quic_exchange.specs.Unsettled.{unsettled_after}
 use Rattle.quic_exchange.specs.Payloads.{meta_of, metas_in}
 use Rattle.quic_exchange.specs.Replies.{Answer}
 use Rattle.quic_exchange.specs.State.{PairState, OnEnd, peer}
-use Rattle.quic_exchange.specs.Steps.{NextOrdinary, Emits, Emitted, SentAfter, Delivers, Reports, SettlesPayload}
+use Rattle.quic_exchange.specs.Steps.{NextOrdinary, SentAfter, Delivers, Reports, SettlesPayload}
 use Rattle.quic_exchange.specs.History.{History, Past, past_of}
 use Rattle.quic_exchange.proofs.Eras.{EraFrom, begun, next, changed, Changes, accepts, retries, ToldIn, tales_in, tales_changed}
 use Rattle.quic_exchange.specs.Tale.{Tale, Tales, StepTells, SendsOne, HearsOne, TellsParts, Part, Carried, parts_in, parts_of, parts_left, with_parts, acked_part, lost_part, with_frames_sent, with_frame_heard, with_one_opened, with_bytes_taken, with_deed, with_window_of, with_limits_given, told_of}
+use Rattle.quic_exchange.proofs.Emissions.{EmitsSome, EmittedSome, emitted-some, emitted-part, tells-part}
 use Rattle.quic_exchange.proofs.Lists.{slice_get-push, slice_get-append_left, slice_set-keeps, slice_get-set_same, slice_get-within, one-of-first}
 use Rattle.quic_exchange.proofs.Marks.{sent_on_end}
 use Rattle.quic_exchange.proofs.Left.{AreLeft, carried_in}
@@ -134,6 +135,7 @@ module _ (ways more : End → StreamMeta → Type 0) (w : (who : End) (m : Strea
 -- steps beside payloads that are sent and reported
 abbrev IsBesidePayloads : Step → Type 0
 IsBesidePayloads (steps.Emit who most fair) = ⊥
+IsBesidePayloads (steps.EmitPart who most fair part) = ⊥
 IsBesidePayloads (steps.Lose number) = ⊥
 IsBesidePayloads (steps.Ack number) = ⊥
 IsBesidePayloads _ = Unit {0}
@@ -149,6 +151,7 @@ module _ (old new : List Sent) (stay : RestsStay old new) (t : Tales) (k : AreAl
   told_beside (steps.Deliver number index) (Ok Done) u b e = heard_one (IsUnreported old) (IsUnreported new) (unreported_stays old new stay) t k old (number, index) u e
   told_beside (steps.Deliver number index) (Ok DoneTransmit) u b e = heard_one (IsUnreported old) (IsUnreported new) (unreported_stays old new stay) t k old (number, index) u e
   told_beside (steps.Emit who most fair) reply u b e = absurd b
+  told_beside (steps.EmitPart who most fair part) reply u b e = absurd b
   told_beside (steps.Lose number) reply u b e = absurd b
   told_beside (steps.Ack number) reply u b e = absurd b
   told_beside _ _ u b e = told_same (IsUnreported old) (IsUnreported new) (unreported_stays old new stay) t k u e
@@ -165,7 +168,7 @@ some_rest None view e = absurd (none-some view e)
 some_rest (Some r) view e = (r, refl)
 
 module _ (old new : PairState) (t u : Tales) (count : t.payloads ≡ length old.sent) (fresh : (number : ℕ) → length old.sent ≤ number → t.told number ≡ 0) (left : AreLeft new.sent u.told) (k : AreAllTraced old.sent t) where
-  module _ {who : End} {most : ℕ} {fair : Bool} {answer : Result (Unit {0}) OutOfMemory} {payload : PayloadView} (e : Emits old who most fair answer payload new) (s : SendsOne new.sent who t u) where
+  module _ {who : End} {most : ℕ} {fair : Bool} {answer : Result (Unit {0}) OutOfMemory} {payload : PayloadView} (e : EmitsSome old who most fair answer payload new) (s : SendsOne new.sent who t u) where
     sent_then : new.sent ≡ old.sent ++ e.sent ∷ []
     sent_then = ap (λ (v : PairState). v.sent) e.is
 
@@ -210,7 +213,7 @@ module _ (old new : PairState) (t u : Tales) (count : t.payloads ≡ length old.
   longer_by : (s : Sent) → new.sent ≡ old.sent ++ s ∷ [] → length new.sent ≡ length old.sent + 1
   longer_by s e = ap length e ∙ length-append old.sent (s ∷ [])
 
-  traced_emitted : (who : End) (most : ℕ) (fair : Bool) (reply : Answer) → Emitted old who most fair reply new → StepTells old.sent new.sent (steps.Emit who most fair) reply t u → AreAllTraced new.sent u
+  traced_emitted : (who : End) (most : ℕ) (fair : Bool) (reply : Answer) → EmittedSome old who most fair reply new → StepTells old.sent new.sent (steps.Emit who most fair) reply t u → AreAllTraced new.sent u
   traced_emitted who most fair (Ok (Payload number bytes)) e s = traced_sent e.emits s.0
   traced_emitted who most fair (Err NoMemory) e s = elim e [
     | inl same ↦ elim s [
@@ -357,7 +360,8 @@ module _ (a b : Origin) (old new : PairState) (r : Recounted a b old) (reply : A
   traced_next (steps.SetReceiveWindow who window) s n e = traced_on_end who (steps.SetReceiveWindow who window) s.tales tt n e
   traced_next (steps.SetMaxConcurrent who dir count) s n e = traced_on_end who (steps.SetMaxConcurrent who dir count) s.tales tt n e
   traced_next (steps.Poll who) s n e = traced_on_end who (steps.Poll who) s.tales tt n e
-  traced_next (steps.Emit who most fair) s n e = traced_emitted old new r.tales s.tales r.count r.fresh s.left k who most fair reply n e
+  traced_next (steps.Emit who most fair) s n e = traced_emitted old new r.tales s.tales r.count r.fresh s.left k who most fair reply (emitted-some old new who most fair reply n) e
+  traced_next (steps.EmitPart who most fair part) s n e = traced_emitted old new r.tales s.tales r.count r.fresh s.left k who most fair reply (emitted-part old new who most fair part reply n) (tells-part old.sent new.sent who most fair part reply r.tales s.tales e)
   traced_next (steps.Deliver number index) s n e = told_beside old.sent new.sent (rests_delivered old new number index reply n) r.tales k (steps.Deliver number index) reply s.tales tt e
   traced_next (steps.Lose number) s n e = traced_lost old new r.tales s.tales r.left s.left k number reply n e
   traced_next (steps.Ack number) s n e = traced_acked old new r.tales s.tales r.left s.left k number reply n e

@@ -26,6 +26,8 @@ use Rattle.quic_link.specs.Endpoints.{IsOneOf}
 use Rattle.quic_endpoint.specs.Ends.{EndState}
 use Rattle.quic_steps.specs.declared.steps.Last.{Last}
 use Rattle.quic_steps.specs.declared.steps.Last.TheVariants as last
+use Rattle.quic_steps.specs.declared.steps.PayloadPart.{PayloadPart}
+use Rattle.quic_steps.specs.declared.steps.PayloadPart.TheVariants.{Control, Streams}
 use Rattle.quic_steps.specs.declared.steps.Step.{Step}
 use Rattle.quic_steps.specs.declared.steps.Step.TheVariants as steps
 use Rattle.quic_steps.specs.declared.steps.Reply.TheVariants.{Done, Nothing, Wrote, WroteChunks, Blocked, Read, Expanded, Payload}
@@ -182,6 +184,28 @@ pub record IsFull (most : ℕ) (bytes : List ℕ) (f : EndState) : Type 0 where
   pub kinds : (kind : ControlKind) → HasNoneOf kind f.pending ⊎ (most ≤ length front + kind_bound kind)
   pub streams : (line f.streams.queue ≡ []) ⊎ (most ≤ length bytes + 25)
 
+-- one of control frames alone is within its size, and of each of their kinds none is left, or the longest frame of the kind does
+-- not fit behind it
+pub record IsFullOfControl (most : ℕ) (bytes : List ℕ) (f : EndState) : Type 0 where
+  pub control : AreSpellingsOf true bytes
+  pub within : length bytes ≤ most
+  pub kinds : (kind : ControlKind) → HasNoneOf kind f.pending ⊎ (most ≤ length bytes + kind_bound kind)
+
+-- one of STREAM frames alone is, and no stream is left in the send queue, or the longest beginning of a STREAM frame does not fit
+-- behind it
+pub record IsFullOfStreams (most : ℕ) (bytes : List ℕ) (f : EndState) : Type 0 where
+  pub streams_are : AreSpellingsOf false bytes
+  pub within : length bytes ≤ most
+  pub streams : (line f.streams.queue ≡ []) ⊎ (most ≤ length bytes + 25)
+
+abbrev pub IsFullOf : PayloadPart → ℕ → List ℕ → EndState → Type 0
+IsFullOf Control most bytes f = IsFullOfControl most bytes f
+IsFullOf Streams most bytes f = IsFullOfStreams most bytes f
+
+abbrev pub IsFullOfIf : PayloadPart → ℕ → Answer → EndState → Type 0
+IsFullOfIf part most (Ok (Payload number bytes)) f = IsFullOf part most bytes.items f
+IsFullOfIf part most _ f = Unit {0}
+
 abbrev pub IsFullIf : ℕ → Answer → EndState → Type 0
 IsFullIf most (Ok (Payload number bytes)) f = IsFull most bytes.items f
 IsFullIf most _ f = Unit {0}
@@ -229,6 +253,7 @@ AsksFor old (steps.ReceivedReset who id) reply new = AsksStreamsIf reply (the_en
 AsksFor old (steps.SetReceiveWindow who window) reply new = AsksLarger reply (the_end new who)
 AsksFor old (steps.SetMaxConcurrent who dir count) reply new = AsksStreamsIf reply (the_end new who)
 AsksFor old (steps.Emit who most fair) reply new = IsFullIf most reply (the_end new who) × LosesNoneIf (the_end old who) reply (the_end new who)
+AsksFor old (steps.EmitPart who most fair part) reply new = IsFullOfIf part most reply (the_end new who) × LosesNoneIf (the_end old who) reply (the_end new who)
 AsksFor old (steps.Deliver number index) reply new = OnWriter old number (λ s. AsksAfterFrame (the_end old (peer s.writer)) (the_end new (peer s.writer))) reply
 AsksFor old (steps.Lose number) reply new = OnWriter old number (λ s. AsksAgain s.text.bytes (the_end new s.writer)) reply
 AsksFor old (steps.Ack number) reply new = OnWriter old number (λ s. AsksStreams (the_end new s.writer)) reply

@@ -9,6 +9,7 @@ pub mod Honest
 pub mod Law
 pub mod Network
 pub mod Notes
+pub mod Parts
 pub mod Payloads
 pub mod Promises
 pub mod Readable

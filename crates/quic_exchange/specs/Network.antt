@@ -1,9 +1,10 @@
--- The payloads that are in the network: those that `Emit` returned. None leaves it, but that a rejection of early data and a Retry
--- drop all.
+-- The payloads that are in the network: those that `Emit` and `EmitPart` returned. None leaves it, but that a rejection of early
+-- data and a Retry drop all.
 use Rattle.std.specs.Prelude.{ℕ, Bool, ◌≡◌, ◌⊎◌, ◌+◌, false, List, [], ◌∷◌, length, slice_get, Some, Ok, Err}
 use Rattle.quic_retransmits.specs.Pending.{nothing}
 use Rattle.quic_link.specs.Endpoints.{IsOneOf}
 use Rattle.quic_steps.specs.declared.steps.End.{End}
+use Rattle.quic_steps.specs.declared.steps.PayloadPart.{PayloadPart}
 use Rattle.quic_steps.specs.declared.steps.Step.{Step}
 use Rattle.quic_steps.specs.declared.steps.Step.TheVariants as steps
 use Rattle.quic_steps.specs.declared.steps.Reply.TheVariants.{Payload}
@@ -41,7 +42,7 @@ pub record SendsPayload (who : End) (bytes : List ℕ) (old new : List Sent) : T
   pub bytes_are : payload.text.bytes ≡ bytes
   pub here : payload.gone ≡ false
 
--- `Emit` sends the payload that it returns; if memory runs out, it sends one or none
+-- `Emit` or `EmitPart` sends the payload that it returns; if memory runs out, it sends one or none
 abbrev pub EmitsReturned : End → Answer → List Sent → List Sent → Type 0
 EmitsReturned who (Ok (Payload number bytes)) old new = (number ≡ length old) × SendsPayload who bytes.items old new
 EmitsReturned who (Err NoMemory) old new = KeepsNetwork old new ⊎ ((bytes : List ℕ) × SendsPayload who bytes old new)
@@ -60,13 +61,14 @@ DropsEarlyData (Err error) old new = KeepsNetwork old.sent new.sent
 -- no other step adds a payload or drops one
 abbrev pub ChangesNetwork : PairState → Step → Answer → PairState → Type 0
 ChangesNetwork old (steps.Emit who most fair) reply new = EmitsReturned who reply old.sent new.sent
+ChangesNetwork old (steps.EmitPart who most fair part) reply new = EmitsReturned who reply old.sent new.sent
 ChangesNetwork old steps.EarlyReject reply new = DropsEarlyData reply old new
 ChangesNetwork old steps.Retry reply new = DropsPayloads reply old.sent new.sent
 ChangesNetwork old step reply new = KeepsNetwork old.sent new.sent
 
 -- ---- by what a caller knows
 
--- a payload that `Emit` returned
+-- a payload that `Emit` or `EmitPart` returned
 pub record Returned : Type 0 where
   pub number : ℕ
   pub writer : End
@@ -75,6 +77,7 @@ pub record Returned : Type 0 where
 -- those that were not dropped since, after one more step
 abbrev pub returned_then : List Returned → Step → Answer → List Returned
 returned_then l (steps.Emit who most fair) (Ok (Payload number bytes)) = record { number = number; writer = who; bytes = bytes.items } ∷ l
+returned_then l (steps.EmitPart who most fair part) (Ok (Payload number bytes)) = record { number = number; writer = who; bytes = bytes.items } ∷ l
 returned_then l steps.EarlyReject (Ok reply) = []
 returned_then l steps.Retry (Ok reply) = []
 returned_then l step reply = l
@@ -92,11 +95,12 @@ AreInNetwork l sent = (r : Returned) → IsOneOf r l → (s : Sent) × (slice_ge
 abbrev pub AreAllReturned : List Returned → List Sent → Type 0
 AreAllReturned l sent = (number : ℕ) (s : Sent) → slice_get sent number ≡ Some s → s.gone ≡ false → IsOneOf (record { number = number; writer = s.writer; bytes = s.text.bytes }) l
 
--- no `Emit` ran out of memory
-abbrev pub IsEmittedWhole : History → Type 0
-IsEmittedWhole h = (who : End) (most : ℕ) (fair : Bool) → IsOneOf (steps.Emit who most fair, Err NoMemory) h → ⊥
+-- no `Emit` ran out of memory, and no `EmitPart`
+pub record IsEmittedWhole (h : History) : Type 0 where
+  pub whole : (who : End) (most : ℕ) (fair : Bool) → IsOneOf (steps.Emit who most fair, Err NoMemory) h → ⊥
+  pub parts : (who : End) (most : ℕ) (fair : Bool) (part : PayloadPart) → IsOneOf (steps.EmitPart who most fair part, Err NoMemory) h → ⊥
 
--- the network has the payloads that `Emit` returned, and no other unless an `Emit` ran out of memory
+-- the network has the payloads that `Emit` and `EmitPart` returned, and no other unless one of these ran out of memory
 pub record IsNetworkOf (h : History) (sent : List Sent) : Type 0 where
   pub there : AreInNetwork (returned_from [] h) sent
   pub only : IsEmittedWhole h → AreAllReturned (returned_from [] h) sent

@@ -20,12 +20,14 @@ use Rattle.quic_endpoint.specs.Receiving.{ReceivesAt, AccountsFrame}
 use Rattle.quic_endpoint.specs.Reports.{LosesPayloadAt, AcksPayloadAt}
 use Rattle.quic_endpoint.specs.Emitting.{PayloadView, EmitsAt}
 use Rattle.quic_steps.specs.declared.steps.End.{End}
+use Rattle.quic_steps.specs.declared.steps.PayloadPart.{PayloadPart}
 use Rattle.quic_steps.specs.declared.steps.End.TheVariants.{A, B}
 use Rattle.quic_steps.specs.declared.steps.Step.{Step}
 use Rattle.quic_steps.specs.declared.steps.Step.TheVariants as steps
 use Rattle.quic_steps.specs.declared.steps.Reply.TheVariants.{Done, Payload}
 use Rattle.quic_steps.specs.declared.steps.PairError.TheVariants.{NoSuchPayload, NoSuchFrame, NotAccepted, AlreadySettled, LimitsBelow, Undecided, Decided, OutOfMemory as NoMemory}
 use Rattle.quic_exchange.specs.Replies.{Answer, report_reply, received_reply}
+use Rattle.quic_exchange.specs.Parts.{EmitsPartAt}
 use Rattle.quic_exchange.specs.Payloads.{SentText, IsFrameAt, LacksFrame, IsMarked}
 use Rattle.quic_exchange.specs.declared.unsettled.Report.{Report}
 use Rattle.quic_exchange.specs.declared.unsettled.Report.TheVariants.{Lost, Acknowledged}
@@ -71,6 +73,39 @@ abbrev pub Emitted : PairState → End → ℕ → Bool → Answer → PairState
 Emitted old who most fair (Ok (Payload number bytes)) new = EmitsWhole old who most fair number bytes.items new
 Emitted old who most fair (Err NoMemory) new = (new ≡ old) ⊎ EmitsPart old who most fair new
 Emitted old who most fair _ new = ⊥
+
+-- ---- payloads of one part
+
+-- an endpoint wrote a payload so, which is sent
+pub record EmitsBy (At : EndState → PayloadView → Result (Unit {0}) OutOfMemory → EndState → Type 0) (old : PairState) (who : End) (answer : Result (Unit {0}) OutOfMemory) (payload : PayloadView) (new : PairState) : Type 0 where
+  pub end : EndState
+  pub emits : At (the_end old who) payload answer end
+  pub sent : Sent
+  pub sent_is : IsSentBy who payload sent
+  pub is : new ≡ with_sent (with_end old who end) (old.sent ++ sent ∷ [])
+
+-- all of it, with its number and its bytes
+pub record EmitsWholeBy (At : EndState → PayloadView → Result (Unit {0}) OutOfMemory → EndState → Type 0) (old : PairState) (who : End) (number : ℕ) (bytes : List ℕ) (new : PairState) : Type 0 where
+  pub payload : PayloadView
+  pub emits : EmitsBy At old who (Ok tt) payload new
+  pub number_is : number ≡ length old.sent
+  pub bytes_are : bytes ≡ payload.bytes
+
+-- the frames that were written before memory ran out
+pub record EmitsCutBy (At : EndState → PayloadView → Result (Unit {0}) OutOfMemory → EndState → Type 0) (old : PairState) (who : End) (new : PairState) : Type 0 where
+  pub answer : Result (Unit {0}) OutOfMemory
+  pub payload : PayloadView
+  pub emits : EmitsBy At old who answer payload new
+
+-- what an emit of such a payload was replied, and what it did
+abbrev pub EmittedBy : (EndState → PayloadView → Result (Unit {0}) OutOfMemory → EndState → Type 0) → PairState → End → Answer → PairState → Type 0
+EmittedBy At old who (Ok (Payload number bytes)) new = EmitsWholeBy At old who number bytes.items new
+EmittedBy At old who (Err NoMemory) new = (new ≡ old) ⊎ EmitsCutBy At old who new
+EmittedBy At old who _ new = ⊥
+
+-- what an emit of one part was replied, and what it did
+abbrev pub EmittedPart : PairState → End → ℕ → Bool → PayloadPart → Answer → PairState → Type 0
+EmittedPart old who most fair part reply new = EmittedBy (EmitsPartAt part most fair) old who reply new
 
 -- ---- frames that were sent
 
@@ -174,6 +209,7 @@ needs_decision (steps.SetReceiveWindow who window) = is_server who
 needs_decision (steps.SetMaxConcurrent who dir count) = is_server who
 needs_decision (steps.Poll who) = is_server who
 needs_decision (steps.Emit who most fair) = is_server who
+needs_decision (steps.EmitPart who most fair part) = is_server who
 needs_decision (steps.Deliver number index) = true
 needs_decision _ = false
 
@@ -263,6 +299,7 @@ NextOrdinary old (steps.SetReceiveWindow who window) reply new = OnEnd (λ e f. 
 NextOrdinary old (steps.SetMaxConcurrent who dir count) reply new = OnEnd (λ e f. SetsMaxConcurrent e dir count reply f) old who new
 NextOrdinary old (steps.Poll who) reply new = OnEnd (λ e f. Polls e reply f) old who new
 NextOrdinary old (steps.Emit who most fair) reply new = Emitted old who most fair reply new
+NextOrdinary old (steps.EmitPart who most fair part) reply new = EmittedPart old who most fair part reply new
 NextOrdinary old (steps.Deliver number index) reply new = Delivers old number index reply new
 NextOrdinary old (steps.Lose number) reply new = SettlesPayload Lost LosesPayloadAt old number reply new
 NextOrdinary old (steps.Ack number) reply new = SettlesPayload Acknowledged AcksPayloadAt old number reply new

@@ -225,8 +225,8 @@ pub record TellsAll (new : List Sent) (number : ℕ) (deed : Part → Tale → T
   pub some : TellsParts new number deed t u
   pub each : t.told number + some.count ≡ length (parts_in some.all)
 
--- what a step and its reply tell, with the payloads that were sent before it and behind it. Whether an `Emit` that ran out of memory
--- sent one, the number of payloads says, as `Pair::payload` answers it. A report that ran out of memory tells of the parts that it
+-- what a step and its reply tell, with the payloads that were sent before it and behind it. Whether an `Emit` or an `EmitPart` that ran
+-- out of memory sent one, the number of payloads says, as `Pair::payload` answers it. A report that ran out of memory tells of the parts that it
 -- reported: those that are not left
 abbrev pub StepTells : List Sent → List Sent → Step → Answer → Tales → Tales → Type 0
 StepTells old new (steps.Open who dir) (Ok (Id id)) t u = u ≡ told_of who (with_one_opened dir) t
@@ -237,6 +237,8 @@ StepTells old new (steps.Reset who id code) (Ok Done) t u = u ≡ told_of who (w
 StepTells old new (steps.SetSendWindow who window) (Ok Done) t u = u ≡ told_of who (with_window_of window) t
 StepTells old new (steps.Emit who most fair) (Ok (Payload number bytes)) t u = SendsOne new who t u × (t.payloads ≡ number)
 StepTells old new (steps.Emit who most fair) (Err error) t u = SendsOneOrNone old new who t u
+StepTells old new (steps.EmitPart who most fair part) (Ok (Payload number bytes)) t u = SendsOne new who t u × (t.payloads ≡ number)
+StepTells old new (steps.EmitPart who most fair part) (Err error) t u = SendsOneOrNone old new who t u
 StepTells old new (steps.Deliver number index) (Ok Done) t u = HearsOne old (number, index) t u
 StepTells old new (steps.Deliver number index) (Ok DoneTransmit) t u = HearsOne old (number, index) t u
 StepTells old new (steps.Lose number) (Ok Done) t u = TellsAll new number lost_part t u

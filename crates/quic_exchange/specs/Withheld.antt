@@ -7,6 +7,7 @@ use Rattle.quic_flows.specs.Flow.{SendFlow, takes_data}
 use Rattle.quic_outgoing.specs.Senders.{is_local}
 use Rattle.quic_history.specs.Flows.{room_on, HasRest}
 use Rattle.quic_steps.specs.declared.steps.End.{End}
+use Rattle.quic_steps.specs.declared.steps.PayloadPart.TheVariants.{Streams}
 use Rattle.quic_steps.specs.declared.steps.Step.{Step}
 use Rattle.quic_steps.specs.declared.steps.Step.TheVariants as steps
 use Rattle.quic_steps.specs.declared.steps.Reply.TheVariants.{Nothing, Wrote, WroteChunks, Blocked, Stopped, Closed, Payload}
@@ -43,10 +44,11 @@ DoesAsPermitted t (steps.Write who id bytes) reply = WritesTold (t.of who) who i
 DoesAsPermitted t (steps.WriteChunks who id chunks) reply = WritesTold (t.of who) who id (length (concat chunks)) reply
 DoesAsPermitted t _ reply = Unit {0}
 
--- after a payload, something is left to be sent on a stream only where the longest beginning of a STREAM frame does not fit
+-- after a payload, unless it was one of control frames alone, something is left to be sent on a stream only where the longest beginning of a STREAM frame does not fit
 -- into what the payload leaves (section 19.8)
 abbrev pub LeavesNone : Tales → Step → Answer → Type 0
 LeavesNone u (steps.Emit who most fair) (Ok (Payload number bytes)) = (id : ℕ) → HasRest ((u.of who).flow id) → most ≤ length bytes.items + 25
+LeavesNone u (steps.EmitPart who most fair Streams) (Ok (Payload number bytes)) = (id : ℕ) → HasRest ((u.of who).flow id) → most ≤ length bytes.items + 25
 LeavesNone u _ reply = Unit {0}
 
 -- a step withholds nothing on the sending side that is permitted, by what the steps tell

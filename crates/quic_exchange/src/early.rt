@@ -68,7 +68,8 @@ pub fn needs_decision(step: &Step) -> bool
         | Step::SetReceiveWindow { who, .. }
         | Step::SetMaxConcurrent { who, .. }
         | Step::Poll { who }
-        | Step::Emit { who, .. } => is_server(*who),
+        | Step::Emit { who, .. }
+        | Step::EmitPart { who, .. } => is_server(*who),
         Step::Deliver { .. } => true,
         Step::Lose { .. }
         | Step::Ack { .. }

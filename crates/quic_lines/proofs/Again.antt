@@ -17,6 +17,8 @@ use Rattle.hex.specs.declared.error.FromHexError.{FromHexError}
 use Rattle.hex.proofs.HexLemmas.{decode_of-encode_lower}
 use Rattle.quic_steps.specs.declared.steps.End.{End}
 use Rattle.quic_steps.specs.declared.steps.End.TheVariants.{A, B}
+use Rattle.quic_steps.specs.declared.steps.PayloadPart.{PayloadPart}
+use Rattle.quic_steps.specs.declared.steps.PayloadPart.TheVariants.{Control, Streams}
 use Rattle.quic_steps.specs.declared.steps.Step.{Step}
 use Rattle.quic_steps.specs.declared.steps.Step.TheVariants as steps
 use Rattle.quic_wire.specs.declared.Dir.{Dir}
@@ -24,7 +26,7 @@ use Rattle.quic_wire.specs.declared.Dir.TheVariants.{Bi, Uni}
 use Rattle.quic_lines.specs.declared.steps.Verb.{Verb}
 use Rattle.quic_lines.specs.declared.steps.Verb.TheVariants as verbs
 use Rattle.quic_lines.specs.Field.{hex_form, AreChunks}
-use Rattle.quic_lines.specs.Grammar.{end_text, mode_text, fairness_text, spaced, step_fields, step_text, fields_of, IsInRange, MeansStep}
+use Rattle.quic_lines.specs.Grammar.{end_text, mode_text, fairness_text, part_text, spaced, step_fields, step_text, fields_of, IsInRange, MeansStep}
 use Rattle.quic_lines.specs.Line.{direction_text}
 use Rattle.quic_lines.proofs.Numerals.{numerals}
 use Rattle.quic_lines.proofs.Parts.{Lacks, AllLack, no_text, lacking, split_joined, written_lacks, form_lacks, parted}
@@ -62,6 +64,10 @@ fairness_lacks : (fair : Bool) → Lacks 32 (fairness_text fair)
 fairness_lacks true = written_lacks 32 (codes "f") refl
 fairness_lacks false = written_lacks 32 (codes "u") refl
 
+part_lacks : (part : PayloadPart) → Lacks 32 (part_text part)
+part_lacks Control = written_lacks 32 (codes "control") refl
+part_lacks Streams = written_lacks 32 (codes "streams") refl
+
 hex_lacks : (bytes : List ℕ) → Lacks 32 (hex_form bytes)
 hex_lacks bytes = form_lacks 32 refl refl refl bytes
 
@@ -89,6 +95,7 @@ fields_lack (steps.SetReceiveWindow who window) range = lacking (written_lacks 3
 fields_lack (steps.SetMaxConcurrent who dir count) range = lacking (written_lacks 32 (codes "max-concurrent") refl) (lacking (end_lacks who) (lacking (direction_lacks dir) (lacking (decimal_lacks count (omega (arith, range))) no_text)))
 fields_lack (steps.Poll who) range = lacking (written_lacks 32 (codes "poll") refl) (lacking (end_lacks who) no_text)
 fields_lack (steps.Emit who max_size fair) range = lacking (written_lacks 32 (codes "emit") refl) (lacking (end_lacks who) (lacking (decimal_lacks max_size range) (lacking (fairness_lacks fair) no_text)))
+fields_lack (steps.EmitPart who max_size fair part) range = lacking (written_lacks 32 (codes "emit-part") refl) (lacking (end_lacks who) (lacking (decimal_lacks max_size range) (lacking (fairness_lacks fair) (lacking (part_lacks part) no_text))))
 fields_lack (steps.Deliver payload frame) range = lacking (written_lacks 32 (codes "deliver") refl) (lacking (decimal_lacks payload range.0) (lacking (decimal_lacks frame range.1) no_text))
 fields_lack (steps.Lose payload) range = lacking (written_lacks 32 (codes "lose") refl) (lacking (decimal_lacks payload range) no_text)
 fields_lack (steps.Ack payload) range = lacking (written_lacks 32 (codes "ack") refl) (lacking (decimal_lacks payload range) no_text)
@@ -117,6 +124,7 @@ some_field (steps.SetReceiveWindow who window) = omega arith
 some_field (steps.SetMaxConcurrent who dir count) = omega arith
 some_field (steps.Poll who) = omega arith
 some_field (steps.Emit who max_size fair) = omega arith
+some_field (steps.EmitPart who max_size fair part) = omega arith
 some_field (steps.Deliver payload frame) = omega arith
 some_field (steps.Lose payload) = omega arith
 some_field (steps.Ack payload) = omega arith
@@ -154,6 +162,13 @@ mode_back false = refl
 fairness_back : (fair : Bool) → is_letter (codes "f") (fairness_text fair) ≡ fair
 fairness_back true = refl
 fairness_back false = refl
+
+abbrev part_of : List ℕ → PayloadPart
+part_of field = if pointwise eqb field (codes "control") then Control else Streams
+
+part_back : (part : PayloadPart) → part_of (part_text part) ≡ part
+part_back Control = refl
+part_back Streams = refl
 
 abbrev number_in : List ℕ → ℕ
 number_in field = digits_value 10 field
@@ -227,6 +242,7 @@ step_of verbs.SetReceiveWindow f = steps.SetReceiveWindow (end_of (field_of f 1)
 step_of verbs.SetMaxConcurrent f = steps.SetMaxConcurrent (end_of (field_of f 1)) (direction_of (field_of f 2)) (number_in (field_of f 3))
 step_of verbs.Poll f = steps.Poll (end_of (field_of f 1))
 step_of verbs.Emit f = steps.Emit (end_of (field_of f 1)) (number_in (field_of f 2)) (is_letter (codes "f") (field_of f 3))
+step_of verbs.EmitPart f = steps.EmitPart (end_of (field_of f 1)) (number_in (field_of f 2)) (is_letter (codes "f") (field_of f 3)) (part_of (field_of f 4))
 step_of verbs.Deliver f = steps.Deliver (number_in (field_of f 1)) (number_in (field_of f 2))
 step_of verbs.Lose f = steps.Lose (number_in (field_of f 1))
 step_of verbs.Ack f = steps.Ack (number_in (field_of f 1))
@@ -255,6 +271,7 @@ step_back (steps.SetReceiveWindow who window) range = cc (end_back who, number_b
 step_back (steps.SetMaxConcurrent who dir count) range = cc (end_back who, direction_back dir, number_back count (omega (arith, range)))
 step_back (steps.Poll who) range = cc (end_back who)
 step_back (steps.Emit who max_size fair) range = cc (end_back who, number_back max_size range, fairness_back fair)
+step_back (steps.EmitPart who max_size fair part) range = cc (end_back who, number_back max_size range, fairness_back fair, part_back part)
 step_back (steps.Deliver payload frame) range = cc (number_back payload range.0, number_back frame range.1)
 step_back (steps.Lose payload) range = cc (number_back payload range)
 step_back (steps.Ack payload) range = cc (number_back payload range)

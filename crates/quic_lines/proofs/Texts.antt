@@ -14,12 +14,14 @@ use Rattle.quic_outgoing.specs.declared.limits.PeerLimits.{PeerLimits}
 use Rattle.quic_steps.specs.declared.steps.Config.{Config}
 use Rattle.quic_steps.specs.declared.steps.End.{End}
 use Rattle.quic_steps.specs.declared.steps.End.TheVariants.{A, B}
+use Rattle.quic_steps.specs.declared.steps.PayloadPart.{PayloadPart}
+use Rattle.quic_steps.specs.declared.steps.PayloadPart.TheVariants.{Control, Streams}
 use Rattle.quic_steps.specs.declared.steps.Step.{Step}
 use Rattle.quic_steps.specs.declared.steps.Step.TheVariants as steps
 use Rattle.quic_wire.specs.declared.Dir.{Dir}
 use Rattle.quic_wire.specs.declared.Dir.TheVariants.{Bi, Uni}
 use Rattle.quic_lines.specs.Field.{hex_form, SpellsNoBytes, SpellsNoChunks}
-use Rattle.quic_lines.specs.Grammar.{end_text, mode_text, fairness_text, step_fields, config_fields, fields_of, IsInRange, IsConfigInRange, IsEarlyInRange, early_fields, MeansStep, MeansConfig, MeansEarly, MeansSettle}
+use Rattle.quic_lines.specs.Grammar.{end_text, mode_text, fairness_text, part_text, step_fields, config_fields, fields_of, IsInRange, IsConfigInRange, IsEarlyInRange, early_fields, MeansStep, MeansConfig, MeansEarly, MeansSettle}
 use Rattle.quic_lines.specs.Line.{direction_text}
 
 -- a text that is written out is ASCII
@@ -46,6 +48,10 @@ mode_ascii false = written (codes "u") refl
 fairness_ascii : (fair : Bool) → IsAscii (fairness_text fair)
 fairness_ascii true = written (codes "f") refl
 fairness_ascii false = written (codes "u") refl
+
+part_ascii : (part : PayloadPart) → IsAscii (part_text part)
+part_ascii Control = written (codes "control") refl
+part_ascii Streams = written (codes "streams") refl
 
 hex_ascii : (bytes : List ℕ) → IsAscii (hex_form bytes)
 hex_ascii [] = written (codes "-") refl
@@ -87,6 +93,7 @@ fields_ascii (steps.SetReceiveWindow who window) range = more (written (codes "r
 fields_ascii (steps.SetMaxConcurrent who dir count) range = more (written (codes "max-concurrent") refl) (more (end_ascii who) (more (direction_ascii dir) (more (IsAscii-decimal count (omega (arith, range))) none)))
 fields_ascii (steps.Poll who) range = more (written (codes "poll") refl) (more (end_ascii who) none)
 fields_ascii (steps.Emit who max_size fair) range = more (written (codes "emit") refl) (more (end_ascii who) (more (IsAscii-decimal max_size (omega (arith, range))) (more (fairness_ascii fair) none)))
+fields_ascii (steps.EmitPart who max_size fair part) range = more (written (codes "emit-part") refl) (more (end_ascii who) (more (IsAscii-decimal max_size (omega (arith, range))) (more (fairness_ascii fair) (more (part_ascii part) none))))
 fields_ascii (steps.Deliver payload frame) range = more (written (codes "deliver") refl) (more (IsAscii-decimal payload (omega (arith, range.0))) (more (IsAscii-decimal frame (omega (arith, range.1))) none))
 fields_ascii (steps.Lose payload) range = more (written (codes "lose") refl) (more (IsAscii-decimal payload (omega (arith, range))) none)
 fields_ascii (steps.Ack payload) range = more (written (codes "ack") refl) (more (IsAscii-decimal payload (omega (arith, range))) none)

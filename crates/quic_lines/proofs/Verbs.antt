@@ -25,6 +25,7 @@ verb_of (steps.SetReceiveWindow who window) = verbs.SetReceiveWindow
 verb_of (steps.SetMaxConcurrent who dir count) = verbs.SetMaxConcurrent
 verb_of (steps.Poll who) = verbs.Poll
 verb_of (steps.Emit who max_size fair) = verbs.Emit
+verb_of (steps.EmitPart who max_size fair part) = verbs.EmitPart
 verb_of (steps.Deliver payload frame) = verbs.Deliver
 verb_of (steps.Lose payload) = verbs.Lose
 verb_of (steps.Ack payload) = verbs.Ack
@@ -49,6 +50,7 @@ begins (steps.SetReceiveWindow who window) = (_, refl)
 begins (steps.SetMaxConcurrent who dir count) = (_, refl)
 begins (steps.Poll who) = (_, refl)
 begins (steps.Emit who max_size fair) = (_, refl)
+begins (steps.EmitPart who max_size fair part) = (_, refl)
 begins (steps.Deliver payload frame) = (_, refl)
 begins (steps.Lose payload) = (_, refl)
 begins (steps.Ack payload) = (_, refl)
@@ -77,6 +79,7 @@ named text =
     if pointwise eqb text (codes "max-concurrent") then verbs.SetMaxConcurrent else
     if pointwise eqb text (codes "poll") then verbs.Poll else
     if pointwise eqb text (codes "emit") then verbs.Emit else
+    if pointwise eqb text (codes "emit-part") then verbs.EmitPart else
     if pointwise eqb text (codes "deliver") then verbs.Deliver else
     if pointwise eqb text (codes "lose") then verbs.Lose else
     if pointwise eqb text (codes "ack") then verbs.Ack else
@@ -100,6 +103,7 @@ named_is verbs.SetReceiveWindow = refl
 named_is verbs.SetMaxConcurrent = refl
 named_is verbs.Poll = refl
 named_is verbs.Emit = refl
+named_is verbs.EmitPart = refl
 named_is verbs.Deliver = refl
 named_is verbs.Lose = refl
 named_is verbs.Ack = refl
@@ -130,6 +134,7 @@ at_verb (steps.SetReceiveWindow who window) first arguments none range e = none 
 at_verb (steps.SetMaxConcurrent who dir count) first arguments none range e = none who dir count range (tails _ _ _ _ e)
 at_verb (steps.Poll who) first arguments none range e = none who (tails _ _ _ _ e)
 at_verb (steps.Emit who max_size fair) first arguments none range e = none who max_size fair range (tails _ _ _ _ e)
+at_verb (steps.EmitPart who max_size fair part) first arguments none range e = none who max_size fair part range (tails _ _ _ _ e)
 at_verb (steps.Deliver payload frame) first arguments none range e = none payload frame range.0 range.1 (tails _ _ _ _ e)
 at_verb (steps.Lose payload) first arguments none range e = none payload range (tails _ _ _ _ e)
 at_verb (steps.Ack payload) first arguments none range e = none payload range (tails _ _ _ _ e)
@@ -196,6 +201,7 @@ few_fields (steps.SetReceiveWindow who window) = omega arith
 few_fields (steps.SetMaxConcurrent who dir count) = omega arith
 few_fields (steps.Poll who) = omega arith
 few_fields (steps.Emit who max_size fair) = omega arith
+few_fields (steps.EmitPart who max_size fair part) = omega arith
 few_fields (steps.Deliver payload frame) = omega arith
 few_fields (steps.Lose payload) = omega arith
 few_fields (steps.Ack payload) = omega arith

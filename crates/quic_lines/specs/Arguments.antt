@@ -5,11 +5,12 @@ use Rattle.std.specs.Fmt.{decimal, signed_decimal}
 use Rattle.std.specs.List.{join_with_byte}
 use Rattle.hex.specs.Hex.{IsBytes}
 use Rattle.quic_steps.specs.declared.steps.End.{End}
+use Rattle.quic_steps.specs.declared.steps.PayloadPart.{PayloadPart}
 use Rattle.quic_wire.specs.declared.Dir.{Dir}
 use Rattle.quic_lines.specs.declared.steps.Verb.{Verb}
 use Rattle.quic_lines.specs.declared.steps.Verb.TheVariants as verbs
 use Rattle.quic_lines.specs.Field.{hex_form, AreChunks}
-use Rattle.quic_lines.specs.Grammar.{end_text, mode_text, fairness_text}
+use Rattle.quic_lines.specs.Grammar.{end_text, mode_text, fairness_text, part_text}
 use Rattle.quic_lines.specs.Line.{direction_text}
 
 abbrev pub verb_text : Verb → List ℕ
@@ -28,6 +29,7 @@ verb_text verbs.SetReceiveWindow = codes "receive-window"
 verb_text verbs.SetMaxConcurrent = codes "max-concurrent"
 verb_text verbs.Poll = codes "poll"
 verb_text verbs.Emit = codes "emit"
+verb_text verbs.EmitPart = codes "emit-part"
 verb_text verbs.Deliver = codes "deliver"
 verb_text verbs.Lose = codes "lose"
 verb_text verbs.Ack = codes "ack"
@@ -52,6 +54,7 @@ SpellsNoArguments verbs.SetReceiveWindow fields = (who : End) (window : ℕ) →
 SpellsNoArguments verbs.SetMaxConcurrent fields = (who : End) (dir : Dir) (count : ℕ) → count ≤ 2 ^ 60 → fields ≡ end_text who ∷ direction_text dir ∷ decimal count ∷ [] → ⊥
 SpellsNoArguments verbs.Poll fields = (who : End) → fields ≡ end_text who ∷ [] → ⊥
 SpellsNoArguments verbs.Emit fields = (who : End) (max_size : ℕ) (fair : Bool) → max_size < 2 ^ 64 → fields ≡ end_text who ∷ decimal max_size ∷ fairness_text fair ∷ [] → ⊥
+SpellsNoArguments verbs.EmitPart fields = (who : End) (max_size : ℕ) (fair : Bool) (part : PayloadPart) → max_size < 2 ^ 64 → fields ≡ end_text who ∷ decimal max_size ∷ fairness_text fair ∷ part_text part ∷ [] → ⊥
 SpellsNoArguments verbs.Deliver fields = (payload frame : ℕ) → payload < 2 ^ 64 → frame < 2 ^ 64 → fields ≡ decimal payload ∷ decimal frame ∷ [] → ⊥
 SpellsNoArguments verbs.Lose fields = (payload : ℕ) → payload < 2 ^ 64 → fields ≡ decimal payload ∷ [] → ⊥
 SpellsNoArguments verbs.Ack fields = (payload : ℕ) → payload < 2 ^ 64 → fields ≡ decimal payload ∷ [] → ⊥

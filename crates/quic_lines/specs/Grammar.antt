@@ -7,6 +7,8 @@ use Rattle.quic_outgoing.specs.declared.limits.PeerLimits.{PeerLimits}
 use Rattle.quic_steps.specs.declared.steps.Config.{Config}
 use Rattle.quic_steps.specs.declared.steps.End.{End}
 use Rattle.quic_steps.specs.declared.steps.End.TheVariants.{A, B}
+use Rattle.quic_steps.specs.declared.steps.PayloadPart.{PayloadPart}
+use Rattle.quic_steps.specs.declared.steps.PayloadPart.TheVariants.{Control, Streams}
 use Rattle.quic_steps.specs.declared.steps.Step.{Step}
 use Rattle.quic_steps.specs.declared.steps.Step.TheVariants as steps
 use Rattle.hex.specs.Hex.{IsBytes}
@@ -28,6 +30,10 @@ mode_text ordered = letter_text (codes "o") (codes "u") ordered
 abbrev pub fairness_text : Bool → List ℕ
 fairness_text fair = letter_text (codes "f") (codes "u") fair
 
+abbrev pub part_text : PayloadPart → List ℕ
+part_text Control = codes "control"
+part_text Streams = codes "streams"
+
 abbrev pub step_fields : Step → List (List ℕ)
 step_fields (steps.Open who dir) = codes "open" ∷ end_text who ∷ direction_text dir ∷ []
 step_fields (steps.Accept who dir) = codes "accept" ∷ end_text who ∷ direction_text dir ∷ []
@@ -44,6 +50,7 @@ step_fields (steps.SetReceiveWindow who window) = codes "receive-window" ∷ end
 step_fields (steps.SetMaxConcurrent who dir count) = codes "max-concurrent" ∷ end_text who ∷ direction_text dir ∷ decimal count ∷ []
 step_fields (steps.Poll who) = codes "poll" ∷ end_text who ∷ []
 step_fields (steps.Emit who max_size fair) = codes "emit" ∷ end_text who ∷ decimal max_size ∷ fairness_text fair ∷ []
+step_fields (steps.EmitPart who max_size fair part) = codes "emit-part" ∷ end_text who ∷ decimal max_size ∷ fairness_text fair ∷ part_text part ∷ []
 step_fields (steps.Deliver payload frame) = codes "deliver" ∷ decimal payload ∷ decimal frame ∷ []
 step_fields (steps.Lose payload) = codes "lose" ∷ decimal payload ∷ []
 step_fields (steps.Ack payload) = codes "ack" ∷ decimal payload ∷ []
@@ -68,6 +75,7 @@ IsInRange (steps.SetReceiveWindow who window) = window < 2 ^ 62
 IsInRange (steps.SetMaxConcurrent who dir count) = count ≤ 2 ^ 60
 IsInRange (steps.Poll who) = Unit {0}
 IsInRange (steps.Emit who max_size fair) = max_size < 2 ^ 64
+IsInRange (steps.EmitPart who max_size fair part) = max_size < 2 ^ 64
 IsInRange (steps.Deliver payload frame) = (payload < 2 ^ 64) × (frame < 2 ^ 64)
 IsInRange (steps.Lose payload) = payload < 2 ^ 64
 IsInRange (steps.Ack payload) = payload < 2 ^ 64

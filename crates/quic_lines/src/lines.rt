@@ -4,12 +4,12 @@ ghost use Rattle.std.specs.Fmt.{decimal, signed_decimal};
 ghost use Rattle.std.specs.List.{join_with_byte};
 ghost use Rattle.std.specs.Str.{IsAscii};
 ghost use Rattle.quic_lines.specs.Field.{hex_form, SpellsNoBytes, SpellsNoChunks};
-ghost use Rattle.quic_lines.specs.Grammar.{end_text, letter_text, fields_of, limit_fields, MeansConfig, MeansNoConfig, IsConfigInRange, remembered_fields, MeansEarly, MeansNoEarly, IsEarlyInRange};
+ghost use Rattle.quic_lines.specs.Grammar.{end_text, letter_text, part_text, fields_of, limit_fields, MeansConfig, MeansNoConfig, IsConfigInRange, remembered_fields, MeansEarly, MeansNoEarly, IsEarlyInRange};
 ghost use Rattle.quic_lines.specs.Line.{direction_text};
 
 use crate::hexadecimal::hex_bytes;
 use quic_outgoing::PeerLimits;
-use quic_steps::{Config, End};
+use quic_steps::{Config, End, PayloadPart};
 use quic_values::ChunkList;
 use quic_wire::{Bytes, Dir, MAX_STREAM_COUNT, OutOfMemory, StreamId, VarInt};
 use std::alloc::{AllocError, AllocFailed, Global};
@@ -195,6 +195,17 @@ pub(crate) fn direction(field: &str) -> Result<Dir, LineError>
     match field {
         "bi" => Ok(Dir::Bi),
         "uni" => Ok(Dir::Uni),
+        _ => Err(LineError::Malformed),
+    }
+}
+
+pub(crate) fn payload_part(field: &str) -> Result<PayloadPart, LineError>
+    ensures text { IfOk result (λ part. field.now ≡ part_text part) }
+    ensures none { IfErr result (λ error. (part : PayloadPart) → field.now ≡ part_text part → ⊥) }
+{
+    match field {
+        "control" => Ok(PayloadPart::Control),
+        "streams" => Ok(PayloadPart::Streams),
         _ => Err(LineError::Malformed),
     }
 }

@@ -2,12 +2,12 @@ ghost use Rattle.std.specs.Prelude.{◌≡◌, ◌<◌, ◌∷◌, [], IfOk, str
 ghost use Rattle.std.specs.Fmt.{decimal, signed_decimal};
 ghost use Rattle.std.specs.List.{join_with_byte};
 ghost use Rattle.quic_lines.specs.Field.{hex_form};
-ghost use Rattle.quic_lines.specs.Grammar.{end_text, mode_text, fairness_text, letter_text, spaced, step_text, IsInRange, MeansStep};
+ghost use Rattle.quic_lines.specs.Grammar.{end_text, mode_text, fairness_text, part_text, letter_text, spaced, step_text, IsInRange, MeansStep};
 ghost use Rattle.quic_lines.specs.Line.{direction_text};
 
 use crate::hexadecimal::hex_field;
 use crate::replies::{direction_name, id_number};
-use quic_steps::{End, Step};
+use quic_steps::{End, PayloadPart, Step};
 use quic_values::ChunkList;
 use quic_wire::{Dir, OutOfMemory, StreamId, VarInt};
 use std::alloc::Global;
@@ -31,6 +31,15 @@ fn fairness_name(fair: bool) -> &'static str
     ensures { result.now ≡ fairness_text fair }
 {
     if fair { "f" } else { "u" }
+}
+
+fn part_name(part: PayloadPart) -> &'static str
+    ensures { result.now ≡ part_text part }
+{
+    match part {
+        PayloadPart::Control => "control",
+        PayloadPart::Streams => "streams",
+    }
 }
 
 // What stands before a chunk of this index.
@@ -177,6 +186,21 @@ fn emit_text(alloc: Global, who: End, max_size: usize, fair: bool) -> Result<Str
     Ok(format!(in alloc; "emit {end} {max_size} {fairness}")?)
 }
 
+fn emit_part_text(
+    alloc: Global,
+    who: End,
+    max_size: usize,
+    fair: bool,
+    part: PayloadPart,
+) -> Result<String, OutOfMemory>
+    ensures { IfOk result (λ line. string_bytes line ≡ spaced (codes "emit-part" ∷ end_text who ∷ decimal max_size ∷ fairness_text fair ∷ part_text part ∷ [])) }
+{
+    let end = end_name(who);
+    let fairness = fairness_name(fair);
+    let part = part_name(part);
+    Ok(format!(in alloc; "emit-part {end} {max_size} {fairness} {part}")?)
+}
+
 /// The line that spells a step. If a step is read from it again, that is the same step.
 pub fn step_line(alloc: Global, step: &Step) -> Result<String, OutOfMemory>
     ensures text { IfOk result (λ line. string_bytes line ≡ step_text step.now) }
@@ -217,6 +241,12 @@ fn text_of(alloc: Global, step: &Step) -> Result<String, OutOfMemory>
             max_size,
             fair,
         } => emit_text(alloc, *who, *max_size, *fair),
+        Step::EmitPart {
+            who,
+            max_size,
+            fair,
+            part,
+        } => emit_part_text(alloc, *who, *max_size, *fair, *part),
         Step::Deliver { payload, frame } => Ok(format!(in alloc; "deliver {payload} {frame}")?),
         Step::Lose { payload } => Ok(format!(in alloc; "lose {payload}")?),
         Step::Ack { payload } => Ok(format!(in alloc; "ack {payload}")?),

@@ -4,8 +4,8 @@ ghost use Rattle.quic_lines.specs.Arguments.{verb_text, SpellsNoArguments};
 ghost use Rattle.quic_lines.specs.Grammar.{step_fields, SpellsNoStep, MeansStep, MeansNoStep, MeansSettle};
 
 use crate::lines::{
-    LineError, bytes, chunks, count, direction, end, fields_of, is_first, number, priority, size,
-    stream_id, times, var_int,
+    LineError, bytes, chunks, count, direction, end, fields_of, is_first, number, payload_part,
+    priority, size, stream_id, times, var_int,
 };
 use quic_steps::Step;
 use std::alloc::Global;
@@ -28,6 +28,7 @@ pub(crate) enum Verb {
     SetMaxConcurrent,
     Poll,
     Emit,
+    EmitPart,
     Deliver,
     Lose,
     Ack,
@@ -57,6 +58,7 @@ fn read_verb(field: &str) -> Result<Verb, LineError>
         "max-concurrent" => Ok(Verb::SetMaxConcurrent),
         "poll" => Ok(Verb::Poll),
         "emit" => Ok(Verb::Emit),
+        "emit-part" => Ok(Verb::EmitPart),
         "deliver" => Ok(Verb::Deliver),
         "lose" => Ok(Verb::Lose),
         "ack" => Ok(Verb::Ack),
@@ -269,6 +271,21 @@ fn emit(arguments: &[&str]) -> Result<Step, LineError>
     }
 }
 
+fn emit_part(arguments: &[&str]) -> Result<Step, LineError>
+    ensures text { IfOk result (λ step. codes "emit-part" ∷ map (λ field. field.now) arguments.now ≡ step_fields step) }
+    ensures none { IfErr result (λ error. SpellsNoArguments Verb.EmitPart (map (λ field. field.now) arguments.now)) }
+{
+    match arguments {
+        [who, max_size, fairness, part] => Ok(Step::EmitPart {
+            who: end(who)?,
+            max_size: size(max_size)?,
+            fair: is_first(fairness, "f", "u")?,
+            part: payload_part(part)?,
+        }),
+        _ => Err(LineError::Malformed),
+    }
+}
+
 fn deliver(arguments: &[&str]) -> Result<Step, LineError>
     ensures text { IfOk result (λ step. codes "deliver" ∷ map (λ field. field.now) arguments.now ≡ step_fields step) }
     ensures none { IfErr result (λ error. SpellsNoArguments Verb.Deliver (map (λ field. field.now) arguments.now)) }
@@ -357,6 +374,7 @@ fn step_of(alloc: Global, verb: Verb, arguments: &[&str]) -> Result<Step, LineEr
         Verb::SetMaxConcurrent => set_max_concurrent(arguments),
         Verb::Poll => poll(arguments),
         Verb::Emit => emit(arguments),
+        Verb::EmitPart => emit_part(arguments),
         Verb::Deliver => deliver(arguments),
         Verb::Lose => lose(arguments),
         Verb::Ack => ack(arguments),

@@ -1,6 +1,7 @@
 -- A payload of control frames and data that a session writes is one that its endpoint writes, and one without bytes has nothing noted.
 use Rattle.std.proofs.Common.{◌≡◌, ℕ, ◌<◌, ◌+◌, ◌-◌, Bool, true, List, [], ◌∷◌, ◌++◌, length, Option, Some, None, Result, Ok, Err, refl, sym, ap, ◌∙◌, subst, inl, inr, arith}
 use Rattle.std.specs.Prelude.{is_err}
+use Rattle.std.specs.Global.{Vec}
 use Rattle.quic_values.specs.declared.memory.OutOfMemory.{OutOfMemory}
 use Rattle.quic_wire.specs.declared.frame.Frame.{Frame}
 use Rattle.quic_wire.specs.declared.frame.Frame.TheVariants as frames
@@ -23,8 +24,17 @@ use Rattle.quic_session.specs.Sessions.{end_of}
 use Rattle.quic_session.specs.Emitting.{Writing, blank, place_in, WritesControl, WritesStreams, WritesParts, whole, no_datagrams, control_alone}
 use Rattle.quic_steps.specs.declared.steps.End.{End}
 use Rattle.quic_steps.specs.declared.steps.End.TheVariants.{A, B}
+use Rattle.quic_steps.specs.declared.steps.PairError.TheVariants.{OutOfMemory as NoMemory}
+use Rattle.quic_steps.specs.declared.steps.PayloadPart.{PayloadPart}
+use Rattle.quic_steps.specs.declared.steps.PayloadPart.TheVariants.{Control, Streams}
+use Rattle.quic_exchange.specs.Parts.{EmitsControlAlone, EmitsStreamsAlone, EmitsPartAt}
+use Rattle.quic_exchange.specs.Replies.{payload_reply}
+use Rattle.quic_exchange.specs.Sent.{Sent}
+use Rattle.quic_exchange.specs.State.{PairState, OnEnd, two_ends}
+use Rattle.quic_exchange.specs.Steps.{IsSentBy}
+use Rattle.quic_exchange.proofs.Deeds.{emit-so, emit-by}
 use Rattle.quic_pair.specs.declared.emitting.Written.{Written}
-use Rattle.quic_pair.specs.Emitting.{frames_alone, KeepsWritten}
+use Rattle.quic_pair.specs.Emitting.{parts_for, EmitsOf, EmittedOf, KeepsWritten}
 use Rattle.quic_pair.specs.Ends.{OnSession}
 use Rattle.quic_pair.proofs.Sessions.{Puts, Gives}
 
@@ -84,16 +94,28 @@ control-blank most a b r w e =
 streams-blank : (most : ℕ) (fair : Bool) (a b : Writing) (r : Answer) → WritesStreams most fair a r b → b.payload.bytes ≡ [] → (a.payload.bytes ≡ []) × (b.payload.streams ≡ a.payload.streams)
 streams-blank most fair a b r w e = turns-blank w.writes.turns e
 
-parts-blank : {most : ℕ} {fair : Bool} {a : Writing} {r : Answer} {d : Writing} → WritesParts most frames_alone fair a r d → d.payload.bytes ≡ [] → (d.payload.control ≡ a.payload.control) × (d.payload.streams ≡ a.payload.streams)
-parts-blank {most} {fair} {a} {r} {d} (whole b c x y z) e =
+parts-blank : {most : ℕ} {fair : Bool} {a : Writing} {r : Answer} {d : Writing} (part : Option PayloadPart) → WritesParts most (parts_for part) fair a r d → d.payload.bytes ≡ [] → (d.payload.control ≡ a.payload.control) × (d.payload.streams ≡ a.payload.streams)
+parts-blank {most} {fair} {a} {r} {d} None (whole b c x y z) e =
     let last = streams-blank most fair c d r z e in
     let first = control-blank most a b (Ok tt) x (ap (λ (w : Writing). w.payload.bytes) (sym y.1) ∙ last.0) in
     (z.control ∙ ap (λ (w : Writing). w.payload.control) y.1 ∙ first.1, last.1 ∙ ap (λ (w : Writing). w.payload.streams) y.1 ∙ x.streams)
-parts-blank {most} {fair} {a} {r} {d} (no_datagrams b x y) e = let no = y.0 in cc
-parts-blank {most} {fair} {a} {r} {d} (control_alone x) e = ((control-blank most a d r x e).1, x.streams)
+parts-blank {most} {fair} {a} {r} {d} None (no_datagrams b x y) e = let no = y.0 in cc
+parts-blank {most} {fair} {a} {r} {d} None (control_alone x) e = ((control-blank most a d r x e).1, x.streams)
+parts-blank {most} {fair} {a} {r} {d} (Some Control) (whole b c x y z) e =
+    let same : d ≡ b = z.1 ∙ y.1 in
+    let first = control-blank most a b (Ok tt) x (ap (λ (w : Writing). w.payload.bytes) (sym same) ∙ e) in
+    (ap (λ (w : Writing). w.payload.control) same ∙ first.1, ap (λ (w : Writing). w.payload.streams) same ∙ x.streams)
+parts-blank {most} {fair} {a} {r} {d} (Some Control) (no_datagrams b x y) e = let no = y.0 in cc
+parts-blank {most} {fair} {a} {r} {d} (Some Control) (control_alone x) e = ((control-blank most a d r x e).1, x.streams)
+parts-blank {most} {fair} {a} {r} {d} (Some Streams) (whole b c x y z) e =
+    let same : c ≡ a = y.1 ∙ x.1 in
+    let last = streams-blank most fair c d r z e in
+    (z.control ∙ ap (λ (w : Writing). w.payload.control) same, last.1 ∙ ap (λ (w : Writing). w.payload.streams) same)
+parts-blank {most} {fair} {a} {r} {d} (Some Streams) (no_datagrams b x y) e = let no = y.0 in cc
+parts-blank {most} {fair} {a} {r} {d} (Some Streams) (control_alone x) e = let no = x.0 in cc
 
-pub nothing-noted : {most : ℕ} {fair : Bool} (s : Session) {r : Answer} {d : Writing} → WritesParts most frames_alone fair (blank s) r d → d.payload.bytes ≡ [] → (d.payload.control ≡ nothing) × (d.payload.streams ≡ [])
-nothing-noted s w e = parts-blank w e
+pub nothing-noted : {most : ℕ} {fair : Bool} (s : Session) (part : Option PayloadPart) {r : Answer} {d : Writing} → WritesParts most (parts_for part) fair (blank s) r d → d.payload.bytes ≡ [] → (d.payload.control ≡ nothing) × (d.payload.streams ≡ [])
+nothing-noted s part w e = parts-blank part w e
 
 -- ---- the parts as the endpoint writes them
 
@@ -117,26 +139,55 @@ module _ (most : ℕ) (fair : Bool) (s : Session) where
       let all : Carried b d [] sent.streams.items = subst Q (sym e) (subst P none_before (w.writes, w.carries, w.from)) in
       record { writes = all.0; full = w.full; refused = w.refused; carries = all.1; from = all.2; pending = w.pending }
 
-  pub emits-of : {r : Answer} {d : Writing} → WritesParts most frames_alone fair (blank s) r d → (sent : SentPayload) → noted_in sent.control ≡ d.payload.control → sent.streams.items ≡ d.payload.streams
+  emits-both : {r : Answer} {d : Writing} → WritesParts most (parts_for None) fair (blank s) r d → (sent : SentPayload) → noted_in sent.control ≡ d.payload.control → sent.streams.items ≡ d.payload.streams
       → EmitsAt most fair (end_of s) (record { bytes = d.payload.bytes; sent = sent_view sent }) r d.end
-  emits-of {r} {d} (whole b c x y z) sent control streams =
+  emits-both {r} {d} (whole b c x y z) sent control streams =
       let P : Writing → Type 0 = λ w. WritesStreams most fair w r d in
       let last : WritesStreams most fair b r d = subst P y.1 z in
       all_parts b.end b.payload.bytes (control-part (Ok tt) b x (noted_in sent.control) (control ∙ last.control)) (streams-part r b d last x.streams sent streams)
-  emits-of {r} {d} (no_datagrams b x y) sent control streams = let no = y.0 in cc
-  emits-of {r} {d} (control_alone x) sent control streams =
+  emits-both {r} {d} (no_datagrams b x y) sent control streams = let no = y.0 in cc
+  emits-both {r} {d} (control_alone x) sent control streams =
       control_cut d.end d.payload.bytes (control-part r d x (noted_in sent.control) control) (record { same = refl; bytes_are = refl; none = streams ∙ x.streams })
+
+  -- one part alone
+  control-written : (r : Answer) (d : Writing) → WritesControl most (blank s) r d → (sent : SentPayload) → noted_in sent.control ≡ d.payload.control → sent.streams.items ≡ d.payload.streams
+      → EmitsControlAlone most (end_of s) (record { bytes = d.payload.bytes; sent = sent_view sent }) r d.end
+  control-written r d x sent control streams = record { writes = control-part r d x (noted_in sent.control) control; none = streams ∙ x.streams }
+
+  emits-control : {r : Answer} {d : Writing} → WritesParts most (parts_for (Some Control)) fair (blank s) r d → (sent : SentPayload) → noted_in sent.control ≡ d.payload.control → sent.streams.items ≡ d.payload.streams
+      → EmitsControlAlone most (end_of s) (record { bytes = d.payload.bytes; sent = sent_view sent }) r d.end
+  emits-control {r} {d} (whole b c x y z) sent control streams =
+      let P : Writing → Type 0 = λ w. WritesControl most (blank s) (Ok tt) w in
+      let Q : Answer → Type 0 = λ a. WritesControl most (blank s) a d in
+      control-written r d (subst Q (sym z.0) (subst P (sym (z.1 ∙ y.1)) x)) sent control streams
+  emits-control {r} {d} (no_datagrams b x y) sent control streams = let no = y.0 in cc
+  emits-control {r} {d} (control_alone x) sent control streams = control-written r d x sent control streams
+
+  emits-streams : {r : Answer} {d : Writing} → WritesParts most (parts_for (Some Streams)) fair (blank s) r d → (sent : SentPayload) → noted_in sent.control ≡ d.payload.control → sent.streams.items ≡ d.payload.streams
+      → EmitsStreamsAlone most fair (end_of s) (record { bytes = d.payload.bytes; sent = sent_view sent }) r d.end
+  emits-streams {r} {d} (whole b c x y z) sent control streams =
+      let P : Writing → Type 0 = λ w. WritesStreams most fair w r d in
+      let last : WritesStreams most fair (blank s) r d = subst P (y.1 ∙ x.1) z in
+      record { writes = streams-part r (blank s) d last refl sent streams; none = control ∙ last.control }
+  emits-streams {r} {d} (no_datagrams b x y) sent control streams = let no = y.0 in cc
+  emits-streams {r} {d} (control_alone x) sent control streams = let no = x.0 in cc
+
+  pub emits-of : {r : Answer} {d : Writing} (part : Option PayloadPart) → WritesParts most (parts_for part) fair (blank s) r d → (sent : SentPayload) → noted_in sent.control ≡ d.payload.control → sent.streams.items ≡ d.payload.streams
+      → EmitsOf part most fair (end_of s) (record { bytes = d.payload.bytes; sent = sent_view sent }) r d.end
+  emits-of None w sent control streams = emits-both w sent control streams
+  emits-of (Some Control) w sent control streams = emits-control w sent control streams
+  emits-of (Some Streams) w sent control streams = emits-streams w sent control streams
 
 -- ---- a payload that one of two sessions wrote
 
-pub record Sends (most : ℕ) (fair : Bool) (w : Written) (sent : SentPayload) (s t : Session) : Type 0 where
-  pub emits : EmitsAt most fair (end_of s) (record { bytes = w.bytes.items; sent = sent_view sent }) w.answer (end_of t)
+pub record Sends (most : ℕ) (fair : Bool) (part : Option PayloadPart) (w : Written) (sent : SentPayload) (s t : Session) : Type 0 where
+  pub emits : EmitsOf part most fair (end_of s) (record { bytes = w.bytes.items; sent = sent_view sent }) w.answer (end_of t)
   pub puts : Puts w.token (Some sent) s t
   pub gives : Gives w.token s t
 
-pub sent-on : (most : ℕ) (fair : Bool) (w : Written) (who : End) (a b c d : Session) → OnSession (λ s t. KeepsWritten most fair s w t) who a b c d → (sent : SentPayload) × OnSession (Sends most fair w sent) who a b c d
-sent-on most fair w A a b c d o = let k = o.0 in (k.sent, (record { emits = k.emits; puts = k.keeps.kept; gives = (k.conn, k.keeps.is_next, k.keeps.rises) }, o.1))
-sent-on most fair w B a b c d o = let k = o.0 in (k.sent, (record { emits = k.emits; puts = k.keeps.kept; gives = (k.conn, k.keeps.is_next, k.keeps.rises) }, o.1))
+pub sent-on : (most : ℕ) (fair : Bool) (part : Option PayloadPart) (w : Written) (who : End) (a b c d : Session) → OnSession (λ s t. KeepsWritten most fair part s w t) who a b c d → (sent : SentPayload) × OnSession (Sends most fair part w sent) who a b c d
+sent-on most fair part w A a b c d o = let k = o.0 in (k.sent, (record { emits = k.emits; puts = k.keeps.kept; gives = (k.conn, k.keeps.is_next, k.keeps.rises) }, o.1))
+sent-on most fair part w B a b c d o = let k = o.0 in (k.sent, (record { emits = k.emits; puts = k.keeps.kept; gives = (k.conn, k.keeps.is_next, k.keeps.rises) }, o.1))
 
 -- an answer is known by whether it is an error
 pub same-answer : (a b : Answer) → is_err a ≡ is_err b → a ≡ b
@@ -144,3 +195,14 @@ same-answer (Ok u) (Ok v) e = refl
 same-answer (Err u) (Err v) e = refl
 same-answer (Ok u) (Err v) e = cc
 same-answer (Err u) (Ok v) e = cc
+
+-- the step was taken
+pub emits-next : (part : Option PayloadPart) (old new : PairState) (who : End) (most : ℕ) (fair : Bool) (payload : PayloadView) (number : ℕ) (sent : Sent) (sent_is : IsSentBy who payload sent) (is : new.sent ≡ old.sent ++ sent ∷ []) (waits : new.waits ≡ old.waits) (count : number ≡ length old.sent) {E : Type 0} (written : Answer) (copy : Result (Vec ℕ) E)
+    → OnEnd (λ e f. EmitsOf part most fair e payload written f) (two_ends old.a old.b) who (two_ends new.a new.b) → ((v : Vec ℕ) → copy ≡ Ok v → v.items ≡ payload.bytes) → EmittedOf old who most fair part (payload_reply number written copy) new
+emits-next None old new who most fair payload number sent sent_is is waits count written copy d b = emit-so old new who most fair payload number sent sent_is is waits count written copy d b
+emits-next (Some part) old new who most fair payload number sent sent_is is waits count written copy d b = emit-by old new who most fair payload number sent sent_is is waits count (EmitsPartAt part most fair) written copy d b
+
+-- nothing was written, for lack of memory
+pub emits-none : (part : Option PayloadPart) (old new : PairState) (who : End) (most : ℕ) (fair : Bool) → new ≡ old → EmittedOf old who most fair part (Err NoMemory) new
+emits-none None old new who most fair same = inl same
+emits-none (Some part) old new who most fair same = inl same

@@ -5,3 +5,4 @@ pub mod Handing
 pub mod Honest
 pub mod Reporting
 pub mod Sessions
+pub mod Deliveries

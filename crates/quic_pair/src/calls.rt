@@ -38,6 +38,7 @@ pub(crate) fn caller_of(step: &Step) -> Option<End>
         | Step::SetMaxConcurrent { who, .. }
         | Step::Poll { who } => Some(*who),
         Step::Emit { .. }
+        | Step::EmitPart { .. }
         | Step::Deliver { .. }
         | Step::Lose { .. }
         | Step::Ack { .. }
@@ -78,6 +79,7 @@ fn call(end: &mut Session, alloc: Global, step: Step) -> Result<Reply, PairError
         Step::SetMaxConcurrent { dir, count, .. } => done_reply(end.set_max_concurrent(dir, count)),
         Step::Poll { .. } => event_reply(end.poll()),
         Step::Emit { .. }
+        | Step::EmitPart { .. }
         | Step::Deliver { .. }
         | Step::Lose { .. }
         | Step::Ack { .. }

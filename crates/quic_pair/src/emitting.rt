@@ -3,11 +3,12 @@
 ghost use Rattle.std.specs.Prelude.{◌≡◌, ◌<◌, [], is_err};
 ghost use Rattle.quic_session.specs.Slots.{KeepsEmpty};
 ghost use Rattle.quic_session.specs.Tokens.{places};
-ghost use Rattle.quic_pair.specs.Emitting.{frames_alone, EmitsKept};
+ghost use Rattle.quic_pair.specs.Emitting.{parts_for, EmitsKept};
 
 use quic_session::Session;
 use quic_session::buffer::Buffer;
 use quic_session::emitting::Parts;
+use quic_steps::PayloadPart;
 use quic_values::OutOfMemory;
 use std::alloc::Global;
 
@@ -20,30 +21,36 @@ pub(crate) struct Written {
     pub answer: Result<(), OutOfMemory>,
 }
 
-// Control frames and data.
-fn frames_alone() -> Parts
-    ensures { result ≡ frames_alone }
+// Control frames and data, or one of these.
+fn parts_for(part: Option<PayloadPart>) -> Parts
+    ensures { result ≡ parts_for part }
 {
+    let (control, streams) = match part {
+        None => (true, true),
+        Some(PayloadPart::Control) => (true, false),
+        Some(PayloadPart::Streams) => (false, true),
+    };
     Parts {
-        control: true,
+        control,
         datagrams: false,
-        streams: true,
+        streams,
     }
 }
 
-/// Writes control frames and data into a payload of at most `max_size` bytes. It has a token also if there was nothing to
-/// write. Fails only if nothing was written.
+/// Writes control frames and data, or one of these, into a payload of at most `max_size` bytes. It has a token also if there
+/// was nothing to write. Fails only if nothing was written.
 pub(crate) fn emit(
     end: &mut Session,
     alloc: Global,
     max_size: usize,
     fair: bool,
+    part: Option<PayloadPart>,
 ) -> Result<Written, OutOfMemory>
-    ensures { EmitsKept max_size fair end.old result end.new }
+    ensures { EmitsKept max_size fair part end.old result end.new }
 {
     end.reserve_payload()?;
     let mut buffer = Buffer::new(alloc);
-    match end.emit_buffer(&mut buffer, max_size, frames_alone(), fair) {
+    match end.emit_buffer(&mut buffer, max_size, parts_for(part), fair) {
         Ok(Some(emitted)) => Ok(Written {
             token: emitted.token,
             bytes: buffer.bytes,

@@ -10,9 +10,9 @@ ghost use Rattle.quic_exchange.specs.From.{made_of, end_begun};
 ghost use Rattle.quic_exchange.specs.Gone.{with_all_noted};
 ghost use Rattle.quic_exchange.specs.Notes.{under};
 ghost use Rattle.quic_exchange.specs.State.{peer};
-ghost use Rattle.quic_exchange.specs.Steps.{NextTaken, Emitted, Delivers, Accepted, Rejected, Retried, needs_decision};
+ghost use Rattle.quic_exchange.specs.Steps.{NextTaken, Delivers, Accepted, Rejected, Retried, needs_decision};
 ghost use Rattle.quic_pair.specs.Calls.{caller_of};
-ghost use Rattle.quic_pair.specs.Emitting.{EmitsKept};
+ghost use Rattle.quic_pair.specs.Emitting.{EmitsKept, EmittedOf};
 ghost use Rattle.quic_pair.specs.Ends.{ends_view, kept_of, session_of, OnSession, IsBegun, AreConsistent, AreStreamLimits, AreHonestFrames, AreHonestOnce};
 ghost use Rattle.quic_pair.specs.Reporting.{ReportsToken, TakesReport, ReportsPayload, rest_at};
 
@@ -29,7 +29,7 @@ use quic_session::Session;
 use quic_session::params::ParamsError;
 use quic_session::session::Config as SessionConfig;
 use quic_session::settling::SettleError;
-use quic_steps::{Config, End, PairError, Reply, Step};
+use quic_steps::{Config, End, PairError, PayloadPart, Reply, Step};
 use quic_streams::{PeerLimits, Retransmits, SentPayload};
 use quic_values::{OutOfMemory, Side};
 use quic_wire::{Frame, ReceiveError};
@@ -101,12 +101,13 @@ fn emit_on(
     who: End,
     max_size: usize,
     fair: bool,
+    part: Option<PayloadPart>,
 ) -> Result<Written, OutOfMemory>
-    ensures { OnSession (λ s t. EmitsKept max_size fair s result t) who a.old b.old a.new b.new }
+    ensures { OnSession (λ s t. EmitsKept max_size fair part s result t) who a.old b.old a.new b.new }
 {
     match who {
-        End::A => emit(a, alloc, max_size, fair),
-        End::B => emit(b, alloc, max_size, fair),
+        End::A => emit(a, alloc, max_size, fair, part),
+        End::B => emit(b, alloc, max_size, fair, part),
     }
 }
 
@@ -241,7 +242,13 @@ impl Ends {
                 who,
                 max_size,
                 fair,
-            } => self.emit(who, max_size, fair),
+            } => self.emit(who, max_size, fair, None),
+            Step::EmitPart {
+                who,
+                max_size,
+                fair,
+                part,
+            } => self.emit(who, max_size, fair, Some(part)),
             Step::Deliver { payload, frame } => self.deliver(payload, frame),
             Step::Lose { payload } => self.report(payload, Report::Lost),
             Step::Ack { payload } => self.report(payload, Report::Acknowledged),
@@ -265,16 +272,24 @@ impl Ends {
         }
     }
 
-    fn emit(&mut self, who: End, max_size: usize, fair: bool) -> Result<Reply, PairError>
+    // A payload of control frames and data, or of one of these.
+    fn emit(
+        &mut self,
+        who: End,
+        max_size: usize,
+        fair: bool,
+        part: Option<PayloadPart>,
+    ) -> Result<Reply, PairError>
         requires { AreConsistent self.old }
-        ensures next { Emitted (ends_view self.old) who max_size fair result (ends_view self.new) }
+        ensures next { EmittedOf (ends_view self.old) who max_size fair part result (ends_view self.new) }
         ensures sound { AreConsistent self.new }
     {
         if self.sent.reserve(1).is_err() {
             return Err(PairError::OutOfMemory);
         }
         let number = self.sent.len();
-        let written = match emit_on(&mut self.a, &mut self.b, self.alloc, who, max_size, fair) {
+        let alloc = self.alloc;
+        let written = match emit_on(&mut self.a, &mut self.b, alloc, who, max_size, fair, part) {
             Ok(written) => written,
             Err(_) => return Err(PairError::OutOfMemory),
         };

@@ -6,8 +6,10 @@ mod emitting;
 mod ends;
 pub mod pair;
 mod settle;
+mod whole;
 
 pub use pair::Pair;
-pub use quic_steps::{Config, End, Last, PairError, Reply, Step};
+pub use quic_session::receiving::{PayloadError, Received};
+pub use quic_steps::{Config, End, Last, PairError, PayloadPart, Reply, Step};
 pub use quic_streams::PeerLimits;
 pub use settle::StepTaken;

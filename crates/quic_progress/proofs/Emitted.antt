@@ -19,13 +19,14 @@ use Rattle.quic_history.specs.Control.{SettlesEntry, kind_bound}
 use Rattle.quic_history.specs.declared.control.ControlKind.{ControlKind}
 use Rattle.quic_history.specs.History.{From}
 use Rattle.quic_history.proofs.Traces.{itself}
-use Rattle.quic_streams.specs.Payload.{Sheet, PayloadPlace, with_frame_written, with_frame_written_if, SettlesOne, SettlesSome, FitsIn, none, more, WritesKinds, control_order}
+use Rattle.quic_streams.specs.Payload.{Sheet, PayloadPlace, with_frame_written, with_frame_written_if, SettlesOne, SettlesSome, FitsIn, none, more, WritesKinds}
 use Rattle.quic_streams.specs.Transmitting.{told_bytes}
 use Rattle.quic_link.specs.Endpoints.{LinkedEnd, Linked, IsOneOf}
 use Rattle.quic_link.proofs.Joint.{agrees}
 use Rattle.quic_endpoint.specs.Ends.{EndState}
-use Rattle.quic_endpoint.specs.Emitting.{PayloadView, control_in, place_at, EmitsStreams, EmitsNoStream, EmitsAt, whole, cut}
+use Rattle.quic_endpoint.specs.Emitting.{PayloadView, control_in, place_at, EmitsStreams, EmitsNoStream}
 use Rattle.quic_exchange.specs.Payloads.{noted_of}
+use Rattle.quic_exchange.proofs.Emissions.{EmitsSomeAt, whole, cut}
 use Rattle.quic_exchange.proofs.Joined.{Stands}
 use Rattle.quic_exchange.proofs.Lists.{one-of-first}
 use Rattle.quic_exchange.proofs.DuePayloads.{noted-joined, is-last}
@@ -204,13 +205,13 @@ module _ (x y : LinkedEnd) (e : EndState) (payload : PayloadView) (between f : E
         does = s.does;
       })
 
-pub emptied : {most : ℕ} {fair : Bool} {e f : EndState} {payload : PayloadView} {answer : Result (Unit {0}) OutOfMemory} (x y : LinkedEnd) → Linked x y → Stands x e → IsWithin e.streams → EmitsAt most fair e payload answer f → Emptied e f payload
+pub emptied : {most : ℕ} {fair : Bool} {e f : EndState} {payload : PayloadView} {answer : Result (Unit {0}) OutOfMemory} (x y : LinkedEnd) → Linked x y → Stands x e → IsWithin e.streams → EmitsSomeAt most fair e payload answer f → Emptied e f payload
 emptied {most} {fair} {e} {f} {payload} x y l s w (whole between bytes c d) =
-    with_streams x y e payload between f bytes c.after (page-control x y most e c.before control_order (place_at between bytes (control_in payload) c.after) (Ok tt) l s c.writes)
-    (said_kinds e.streams e.pending most control_order (place_at e [] nothing c.before) (place_at between bytes (control_in payload) c.after) (Ok tt) (said_first e c.before w) c.writes) d
-emptied {most} {fair} {e} {f} {payload} x y l s w (cut {error} between bytes c d) =
-    without_streams x y e payload between f bytes c.after (page-control x y most e c.before control_order (place_at between bytes (control_in payload) c.after) (Err error) l s c.writes)
-    (said_kinds e.streams e.pending most control_order (place_at e [] nothing c.before) (place_at between bytes (control_in payload) c.after) (Err error) (said_first e c.before w) c.writes) d
+    with_streams x y e payload between f bytes c.after (page-control x y most e c.before c.kinds (place_at between bytes (control_in payload) c.after) (Ok tt) l s c.writes)
+    (said_kinds e.streams e.pending most c.kinds (place_at e [] nothing c.before) (place_at between bytes (control_in payload) c.after) (Ok tt) (said_first e c.before w) c.writes) d
+emptied {most} {fair} {e} {f} {payload} x y l s w (cut {first} between bytes c d) =
+    without_streams x y e payload between f bytes c.after (page-control x y most e c.before c.kinds (place_at between bytes (control_in payload) c.after) first l s c.writes)
+    (said_kinds e.streams e.pending most c.kinds (place_at e [] nothing c.before) (place_at between bytes (control_in payload) c.after) first (said_first e c.before w) c.writes) d
 
 -- ---- what is noted of a frame is to be sent again
 

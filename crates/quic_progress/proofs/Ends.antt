@@ -286,6 +286,7 @@ may_of _ = record { reads = λ q. false; credits = false; resizes = false; frees
 -- a step writes no payload
 abbrev pub WritesNone : PairStep → Type 0
 WritesNone (steps.Emit who most fair) = ⊥
+WritesNone (steps.EmitPart who most fair part) = ⊥
 WritesNone _ = Unit {0}
 
 module _ (old new : PairState) (m : May) where
@@ -385,6 +386,7 @@ step-leaves old new (steps.SetMaxConcurrent who dir count) reply w n = let m = m
 step-leaves old new (steps.Poll who) reply w n = let m = may_of (steps.Poll who) in
     both_end old new m who n.end n.is (by-call m (the_end old who) n.end (Sending (Polled n.does.event)) tt n.does.polls (asked_same _ _ n.does.pending))
 step-leaves old new (steps.Emit who most fair) reply w n = absurd w
+step-leaves old new (steps.EmitPart who most fair part) reply w n = absurd w
 step-leaves old new (steps.Deliver number index) reply w n = delivered_so old new (may_of (steps.Deliver number index)) refl refl number index reply n
 step-leaves old new (steps.Lose number) reply w n = loses_so old new (may_of (steps.Lose number)) number reply n
 step-leaves old new (steps.Ack number) reply w n = acks_step old new (may_of (steps.Ack number)) refl number reply n

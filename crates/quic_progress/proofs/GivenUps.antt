@@ -184,6 +184,8 @@ module _ (old new : List Sent) (t u : Tales) where
   all-stay (steps.SetSendWindow who window) (Ok Done) k e = all_as (WasAckedIn new (steps.SetSendWindow who window)) who (with_window_of window) t u e (λ x. tale_same (WasAckedIn new (steps.SetSendWindow who window) who) x)
   all-stay (steps.Emit who most fair) (Ok (Payload number bytes)) k e = all_sent (WasAckedIn new (steps.Emit who most fair)) new who t u e.0
   all-stay (steps.Emit who most fair) (Err error) k e = elim e [ inl none ↦ all_at (WasAckedIn new (steps.Emit who most fair)) t t u none.1 (all_same (WasAckedIn new (steps.Emit who most fair)) t) | inr one ↦ all_sent (WasAckedIn new (steps.Emit who most fair)) new who t u one.1 ]
+  all-stay (steps.EmitPart who most fair part) (Ok (Payload number bytes)) k e = all_sent (WasAckedIn new (steps.EmitPart who most fair part)) new who t u e.0
+  all-stay (steps.EmitPart who most fair part) (Err error) k e = elim e [ inl none ↦ all_at (WasAckedIn new (steps.EmitPart who most fair part)) t t u none.1 (all_same (WasAckedIn new (steps.EmitPart who most fair part)) t) | inr one ↦ all_sent (WasAckedIn new (steps.EmitPart who most fair part)) new who t u one.1 ]
   all-stay (steps.Deliver number index) (Ok Done) k e = all_heard (WasAckedIn new (steps.Deliver number index)) old (number, index) t u e
   all-stay (steps.Deliver number index) (Ok DoneTransmit) k e = all_heard (WasAckedIn new (steps.Deliver number index)) old (number, index) t u e
   all-stay (steps.Lose number) (Ok Done) k e = all_parts (WasAckedIn new (steps.Lose number)) new number lost_part t u e.some (λ x. tale_lost (WasAckedIn new (steps.Lose number) (e.some).who) (take (e.some).count (drop (t.told number) (parts_in (e.some).all))) x)

@@ -29,6 +29,7 @@ use Rattle.quic_exchange.specs.State.{PairState, peer, the_end, with_end, with_s
 use Rattle.quic_exchange.specs.Steps.{NextOrdinary, HandsOver}
 use Rattle.quic_exchange.specs.History.{History, Past, FramePlace, after, past_of}
 use Rattle.quic_exchange.specs.Readable.{SomeReset}
+use Rattle.quic_exchange.proofs.Emissions.{emitted-some, emitted-part}
 use Rattle.quic_exchange.proofs.Beside.{IsOfNoPayload, beside}
 use Rattle.quic_exchange.proofs.Flips.{peer-other}
 use Rattle.quic_exchange.proofs.Origins.{Origin}
@@ -207,7 +208,8 @@ module _ (m : End → Made) (p : Past) (old new : PairState) (marks : AreMarkedS
   heard-next (steps.SetReceiveWindow who window) reply n = heard_end (steps.SetReceiveWindow who window) reply tt (sent_on_end old who new n) n
   heard-next (steps.SetMaxConcurrent who dir count) reply n = heard_end (steps.SetMaxConcurrent who dir count) reply tt (sent_on_end old who new n) n
   heard-next (steps.Poll who) reply n = heard_end (steps.Poll who) reply tt (sent_on_end old who new n) n
-  heard-next (steps.Emit who most fair) reply n = heard_same (steps.Emit who most fair) reply refl (stay-emitted old new who most fair reply n) (step-runs old new m (steps.Emit who most fair) reply n)
+  heard-next (steps.Emit who most fair) reply n = heard_same (steps.Emit who most fair) reply refl (stay-emitted old new who most fair reply (emitted-some old new who most fair reply n)) (step-runs old new m (steps.Emit who most fair) reply n)
+  heard-next (steps.EmitPart who most fair part) reply n = heard_same (steps.EmitPart who most fair part) reply refl (stay-emitted old new who most fair reply (emitted-part old new who most fair part reply n)) (step-runs old new m (steps.EmitPart who most fair part) reply n)
   heard-next (steps.Deliver number index) (Ok Done) n = heard_handed number index (Ok Done) (inl refl) n (stay-delivered old new number index (Ok Done) n) (after p (steps.Deliver number index) (Ok Done)) refl (step-runs old new m (steps.Deliver number index) (Ok Done) n)
   heard-next (steps.Deliver number index) (Ok DoneTransmit) n = heard_handed number index (Ok DoneTransmit) (inr refl) n (stay-delivered old new number index (Ok DoneTransmit) n) (after p (steps.Deliver number index) (Ok DoneTransmit)) refl (step-runs old new m (steps.Deliver number index) (Ok DoneTransmit) n)
   heard-next (steps.Deliver number index) (Ok (Fault fault)) n = heard_same (steps.Deliver number index) (Ok (Fault fault)) refl (stay-delivered old new number index (Ok (Fault fault)) n) (step-runs old new m (steps.Deliver number index) (Ok (Fault fault)) n)

@@ -28,9 +28,10 @@ use Rattle.quic_exchange.specs.Unsettled.{unsettled_after, may_report}
 use Rattle.quic_exchange.specs.Replies.{Answer, received_reply}
 use Rattle.quic_exchange.specs.State.{PairState, OnEnd, peer, the_end, with_end, with_sent}
 use Rattle.quic_exchange.specs.Calls.{OnGiven, ReadsSo}
-use Rattle.quic_exchange.specs.Steps.{NextOrdinary, Emits, Emitted, HandsOver, SentAfter, Delivers, Reports, SettlesPayload}
+use Rattle.quic_exchange.specs.Steps.{NextOrdinary, HandsOver, SentAfter, Delivers, Reports, SettlesPayload}
 use Rattle.quic_exchange.specs.History.{History, past_of}
 use Rattle.quic_exchange.specs.Due.{AsksAfterFrame, AsksFor, OnWriter}
+use Rattle.quic_exchange.proofs.Emissions.{EmitsSome, EmittedSome, emitted-some, emitted-part}
 use Rattle.quic_exchange.proofs.Lists.{slice_get-append_left, slice_set-keeps, slice_get-set_same}
 use Rattle.quic_exchange.proofs.Marks.{sent_on_end}
 use Rattle.quic_exchange.proofs.Origins.{Origin}
@@ -264,7 +265,7 @@ module _ {some : Which} (old new : PairState) (o : AreOwing some old) (number : 
 
 -- ---- a payload is written
 
-module _ {some : Which} (old new : PairState) (o : AreOwing some old) (who : End) (most : ℕ) (fair : Bool) (answer : Result (Unit {0}) OutOfMemory) (payload : PayloadView) (e : Emits old who most fair answer payload new) (x : Emptied (the_end old who) e.end payload) where
+module _ {some : Which} (old new : PairState) (o : AreOwing some old) (who : End) (most : ℕ) (fair : Bool) (answer : Result (Unit {0}) OutOfMemory) (payload : PayloadView) (e : EmitsSome old who most fair answer payload new) (x : Emptied (the_end old who) e.end payload) where
   near_kept : (k : Permission) → announced_of k e.end.streams ≡ announced_of k (the_end old who).streams → IsNear k (the_end old who).streams → IsNear k e.end.streams
   near_kept k a near = let p = x.permitted k in let q = x.eighth k in omega (arith, near, a, p, q)
 
@@ -299,11 +300,11 @@ module _ {some : Which} (old new : PairState) (o : AreOwing some old) (who : End
 -- ---- all steps
 
 module _ {some : Which} (a b : Origin) (h : History) (old new : PairState) (g : EraFrom a b h old) (within : (who : End) → IsWithin (the_end old who).streams) (o : AreOwing some old) where
-  emits_owing : (who : End) (most : ℕ) (fair : Bool) (answer : Result (Unit {0}) OutOfMemory) (payload : PayloadView) → Emits old who most fair answer payload new → AreOwing some new
+  emits_owing : (who : End) (most : ℕ) (fair : Bool) (answer : Result (Unit {0}) OutOfMemory) (payload : PayloadView) → EmitsSome old who most fair answer payload new → AreOwing some new
   emits_owing who most fair answer payload e = owing_emits old new o who most fair answer payload e
       (seen-as a b (past_of h) old who (joined-from g) (Emptied (the_end old who) e.end payload) (λ x y side s. emptied x y s.linked s.here (within who) e.emits))
 
-  emitted_owing : (who : End) (most : ℕ) (fair : Bool) (reply : Answer) → Emitted old who most fair reply new → AreOwing some new
+  emitted_owing : (who : End) (most : ℕ) (fair : Bool) (reply : Answer) → EmittedSome old who most fair reply new → AreOwing some new
   emitted_owing who most fair (Ok (Payload number bytes)) e = emits_owing who most fair (Ok tt) e.payload e.emits
   emitted_owing who most fair (Err NoMemory) e = elim e [ inl same ↦ stays old new o same | inr part ↦ emits_owing who most fair part.answer part.payload part.emits ]
   emitted_owing who most fair _ e = absurd e
@@ -341,7 +342,8 @@ module _ {some : Which} (a b : Origin) (h : History) (old new : PairState) (g : 
         counts = λ d on. elim (c.counts d on) [ inl near ↦ inl (count-left (may_of (steps.SetReceiveWindow who window)) d (the_end old who) n.end l refl near) | inr half ↦ inr half ];
       }
   owing-next (steps.SetMaxConcurrent who dir count) reply n = by_end old new o who n (λ c. owing-set old.sent who (the_end old who) n.end dir count n.does.answer n.does.sets (set-leaves (the_end old who) n.end dir count n.does.answer n.does.sets) c)
-  owing-next (steps.Emit who most fair) reply n = emitted_owing who most fair reply n
+  owing-next (steps.Emit who most fair) reply n = emitted_owing who most fair reply (emitted-some old new who most fair reply n)
+  owing-next (steps.EmitPart who most fair part) reply n = emitted_owing who most fair reply (emitted-part old new who most fair part reply n)
   owing-next (steps.Deliver number index) reply n = owing_delivered old new o number index reply n (asks-for a b h old new (steps.Deliver number index) reply g n)
   owing-next (steps.Lose number) reply n = owing_loses old new o number reply n (step-leaves old new (steps.Lose number) reply tt n)
   owing-next (steps.Ack number) reply n = owing_acks old new o number reply n (step-leaves old new (steps.Ack number) reply tt n)

@@ -46,11 +46,11 @@ use Rattle.quic_history.proofs.EarlyFacts.{same-ends}
 use Rattle.quic_history.proofs.SendSteps.{either-way}
 use Rattle.quic_history.proofs.Bare.{IsBare}
 use Rattle.quic_streams.specs.declared.batches.ReadSome.{ReadSome}
-use Rattle.quic_streams.specs.Payload.{PayloadPlace, SettlesSome, none, more, WritesKinds, control_order}
+use Rattle.quic_streams.specs.Payload.{PayloadPlace, SettlesSome, none, more, WritesKinds}
 use Rattle.quic_streams.specs.Settling.{SentView, EachInOrder, LosesMeta}
 use Rattle.quic_streams.specs.Sent.{sent_view, report_view}
 use Rattle.quic_endpoint.specs.Ends.{EndState}
-use Rattle.quic_endpoint.specs.Emitting.{PayloadView, EmitsAt, whole, cut, place_at, control_in}
+use Rattle.quic_endpoint.specs.Emitting.{PayloadView, place_at, control_in}
 use Rattle.quic_endpoint.specs.Reports.{LosesPayloadAt, AcksPayloadAt}
 use Rattle.quic_steps.specs.declared.steps.End.{End}
 use Rattle.quic_steps.specs.declared.steps.End.TheVariants.{A, B}
@@ -64,7 +64,8 @@ use Rattle.quic_exchange.specs.Unsettled.{unsettled_after}
 use Rattle.quic_exchange.specs.Replies.{Answer}
 use Rattle.quic_exchange.specs.State.{PairState, the_end, with_end, with_sent}
 use Rattle.quic_exchange.specs.Calls.{OnGiven, ReadsSo}
-use Rattle.quic_exchange.specs.Steps.{NextOrdinary, Emitted, Reports, SettlesPayload, is_server, needs_decision}
+use Rattle.quic_exchange.specs.Steps.{NextOrdinary, Reports, SettlesPayload, is_server, needs_decision}
+use Rattle.quic_exchange.proofs.Emissions.{EmitsSomeAt, whole, cut, EmittedSome, emitted-some, emitted-part}
 use Rattle.quic_exchange.proofs.CallsSetting.{told-streams}
 use Rattle.quic_exchange.proofs.Left.{AreLeft}
 use Rattle.quic_exchange.proofs.OwnDoings.{AreUntaken, AreSpelled, untaken-here}
@@ -334,14 +335,14 @@ kinds_so most (k ∷ ks) x y answer w = elim w [
   | inr b ↦ some_so b.1
 ]
 
-pub permits-emit : {most : ℕ} {fair : Bool} {e f : EndState} {payload : PayloadView} {answer : Result (Unit {0}) OutOfMemory} → EmitsAt most fair e payload answer f → KeepsPermits e.streams f.streams
+pub permits-emit : {most : ℕ} {fair : Bool} {e f : EndState} {payload : PayloadView} {answer : Result (Unit {0}) OutOfMemory} → EmitsSomeAt most fair e payload answer f → KeepsPermits e.streams f.streams
 permits-emit {most} {fair} {e} {f} {payload} (whole between bytes c d) =
     permits-then e.streams between.streams f.streams
-    (kinds_so most control_order (place_at e [] nothing c.before) (place_at between bytes (control_in payload) c.after) (Ok tt) c.writes)
+    (kinds_so most c.kinds (place_at e [] nothing c.before) (place_at between bytes (control_in payload) c.after) (Ok tt) c.writes)
     (permits-at between.streams f.streams (record between.streams { out = f.streams.out; queue = f.streams.queue }) d.writes.others (permits-beside between.streams _ refl refl refl refl))
-permits-emit {most} {fair} {e} {f} {payload} (cut {error} between bytes c d) =
+permits-emit {most} {fair} {e} {f} {payload} (cut {first} between bytes c d) =
     permits-then e.streams between.streams f.streams
-    (kinds_so most control_order (place_at e [] nothing c.before) (place_at between bytes (control_in payload) c.after) (Err error) c.writes)
+    (kinds_so most c.kinds (place_at e [] nothing c.before) (place_at between bytes (control_in payload) c.after) first c.writes)
     (same_so between.streams f.streams (ap (λ (k : EndState). k.streams) d.same))
 
 each_lost : (ms : List StreamMeta) (u v : World) → EachInOrder LosesMeta u ms v → KeepsPermits u v
@@ -375,7 +376,7 @@ module _ (old new : PairState) (bare : IsBare old.a.streams) where
     | inr nil ↦ same_so old.a.streams f.streams (ap (λ (k : EndState). k.streams) nil.2)
   ]
 
-  emitted_so : (most : ℕ) (fair : Bool) (reply : Answer) → Emitted old A most fair reply new → KeepsPermits old.a.streams new.a.streams
+  emitted_so : (most : ℕ) (fair : Bool) (reply : Answer) → EmittedSome old A most fair reply new → KeepsPermits old.a.streams new.a.streams
   emitted_so most fair (Ok (Payload number bytes)) k = permits-at old.a.streams new.a.streams k.emits.end.streams (ap (λ (v : PairState). v.a.streams) k.emits.is) (permits-emit k.emits.emits)
   emitted_so most fair (Err NoMemory) k = elim k [
     | inl same ↦ same_pair same
@@ -480,7 +481,8 @@ module _ (old new : PairState) (bare : IsBare old.a.streams) where
     permits-next (steps.SetReceiveWindow who window) reply by sets n = absurd (true_false (at_client (λ w. sets_permits (steps.SetReceiveWindow w window) ≡ false) who by sets))
     permits-next (steps.SetMaxConcurrent who dir limit) reply by sets n = absurd (true_false (at_client (λ w. sets_permits (steps.SetMaxConcurrent w dir limit) ≡ false) who by sets))
     permits-next (steps.Poll who) reply by sets n = poll_so reply (at_client (λ w. NextOrdinary old (steps.Poll w) reply new) who by n)
-    permits-next (steps.Emit who most fair) reply by sets n = emitted_so most fair reply (at_client (λ w. NextOrdinary old (steps.Emit w most fair) reply new) who by n)
+    permits-next (steps.Emit who most fair) reply by sets n = emitted_so most fair reply (emitted-some old new A most fair reply (at_client (λ w. NextOrdinary old (steps.Emit w most fair) reply new) who by n))
+    permits-next (steps.EmitPart who most fair part) reply by sets n = emitted_so most fair reply (emitted-part old new A most fair part reply (at_client (λ w. NextOrdinary old (steps.EmitPart w most fair part) reply new) who by n))
     permits-next (steps.Deliver number index) reply by sets n = cc
     permits-next (steps.Lose number) reply by sets n = lost_so untaken number reply n
     permits-next (steps.Ack number) reply by sets n = acks_so untaken spelled count left number reply n

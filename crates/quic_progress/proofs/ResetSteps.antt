@@ -30,9 +30,10 @@ use Rattle.quic_exchange.specs.Sent.{Sent}
 use Rattle.quic_exchange.specs.declared.unsettled.Report.TheVariants.{Lost, Acknowledged}
 use Rattle.quic_exchange.specs.Replies.{Answer, handled_reply}
 use Rattle.quic_exchange.specs.State.{PairState, peer, the_end, with_end}
-use Rattle.quic_exchange.specs.Steps.{NextOrdinary, Delivers, Emitted, SettlesPayload, Reports}
+use Rattle.quic_exchange.specs.Steps.{NextOrdinary, Delivers, SettlesPayload, Reports}
 use Rattle.quic_exchange.specs.History.{Past, Flow, FramePlace, after, with_flow, ends_flow, resets_with, stops_with, tells_reset, tells_stop, completes, writes_more, reads_chunks, reads_last, after_event, is_same_end}
 use Rattle.quic_exchange.specs.Tale.{Tales, WasPayload, GivenUp, parts_in, StepTells, told_of, with_deed}
+use Rattle.quic_exchange.proofs.Emissions.{EmittedSome, emitted-some, emitted-part, tells-part}
 use Rattle.quic_exchange.proofs.Beside.{IsOfNoPayload, beside}
 use Rattle.quic_exchange.proofs.Counted.{Counted}
 use Rattle.quic_exchange.proofs.Left.{AreLeft}
@@ -254,7 +255,7 @@ module _ (old new : PairState) (p : Past) (t u : Tales) (c : Comes old t p) (m :
       (λ who id some held x. inr (waits-forth old new (subst P (sym same) (λ who y i. i)) (forth-same old.sent new.sent sents) who id x)) acks
 
   -- one that writes a payload
-  comes_emit : (who : End) (most : ℕ) (fair : Bool) (reply : Answer) → Emitted old who most fair reply new → StepTells old.sent new.sent (steps.Emit who most fair) reply t u → Comes new u (after p (steps.Emit who most fair) reply)
+  comes_emit : (who : End) (most : ℕ) (fair : Bool) (reply : Answer) → EmittedSome old who most fair reply new → StepTells old.sent new.sent (steps.Emit who most fair) reply t u → Comes new u (after p (steps.Emit who most fair) reply)
   comes_emit who most fair (Ok (Payload number bytes)) n e =
       comes-on old new p p t u (WasAckedIn new.sent (steps.Emit who most fair)) c (all-stay old.sent new.sent t u (steps.Emit who most fair) (Ok (Payload number bytes)) tt e) (λ k id. refl) (stay-emitted old new who most fair (Ok (Payload number bytes)) n) (λ at i. i)
       (λ other id some held x. inr (waits-emits old new who most fair (Ok tt) n.payload n.emits m t counted other id some held x)) (λ other id a. absurd a)
@@ -316,7 +317,8 @@ module _ (old new : PairState) (p : Past) (t u : Tales) (c : Comes old t p) (m :
   comes-next (steps.SetReceiveWindow who window) reply n e = comes_end (steps.SetReceiveWindow who window) reply tt tt tt tt (λ k j a. a) (sent_on_end old who new n) n e
   comes-next (steps.SetMaxConcurrent who dir count) reply n e = comes_end (steps.SetMaxConcurrent who dir count) reply tt tt tt tt (λ k j a. a) (sent_on_end old who new n) n e
   comes-next (steps.Poll who) reply n e = comes_end (steps.Poll who) reply tt tt tt tt (λ k j a. a) (sent_on_end old who new n) n e
-  comes-next (steps.Emit who most fair) reply n e = comes_emit who most fair reply n e
+  comes-next (steps.Emit who most fair) reply n e = comes_emit who most fair reply (emitted-some old new who most fair reply n) e
+  comes-next (steps.EmitPart who most fair part) reply n e = comes_emit who most fair reply (emitted-part old new who most fair part reply n) (tells-part old.sent new.sent who most fair part reply t u e)
   comes-next (steps.Deliver number index) reply n e = comes_deliver number index reply (forth_delivered number index reply n) n e
   comes-next (steps.Lose number) reply n e = comes_lose number reply n e
   comes-next (steps.Ack number) reply n e = comes_ack number reply n e

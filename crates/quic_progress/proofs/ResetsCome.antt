@@ -34,10 +34,11 @@ use Rattle.quic_exchange.specs.Unsettled.{unsettled_after}
 use Rattle.quic_exchange.specs.Payloads.{metas_in, codes_in}
 use Rattle.quic_exchange.specs.Replies.{Answer}
 use Rattle.quic_exchange.specs.State.{PairState, the_end, with_end, with_sent}
-use Rattle.quic_exchange.specs.Steps.{Emits, HandsOver, SentAfter, Reports}
+use Rattle.quic_exchange.specs.Steps.{HandsOver, SentAfter, Reports}
 use Rattle.quic_exchange.specs.History.{Past, FramePlace}
 use Rattle.quic_exchange.specs.Readable.{SomeReset}
 use Rattle.quic_exchange.specs.Tale.{Tale, Tales, WasPayload, Carried, GivenUp, parts_in}
+use Rattle.quic_exchange.proofs.Emissions.{EmitsSome}
 use Rattle.quic_exchange.proofs.Counted.{Counted}
 use Rattle.quic_exchange.proofs.KeptPlaces.{reset-stays, reset-more}
 use Rattle.quic_exchange.proofs.Left.{AreLeft, resets-among}
@@ -146,7 +147,7 @@ end_sent : (old : PairState) (who : End) (g : EndState) (sent : List Sent) → t
 end_sent old A g sent = refl
 end_sent old B g sent = refl
 
-module _ (old new : PairState) (who : End) (most : ℕ) (fair : Bool) (answer : Result (Unit {0}) OutOfMemory) (payload : PayloadView) (n : Emits old who most fair answer payload new) where
+module _ (old new : PairState) (who : End) (most : ℕ) (fair : Bool) (answer : Result (Unit {0}) OutOfMemory) (payload : PayloadView) (n : EmitsSome old who most fair answer payload new) where
   sent_then : new.sent ≡ old.sent ++ n.sent ∷ []
   sent_then = ap (λ (v : PairState). v.sent) n.is
 

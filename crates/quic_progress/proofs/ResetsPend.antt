@@ -197,6 +197,7 @@ module _ (old new : PairState) where
       both_end who n.end n.is (end_keeps e n.end _ s.is (counts_keep (is_ok n.does.answer) e s.set (keeps_same _ _ s.pending)))
   step-keeps (steps.Poll who) reply w n = both_end who n.end n.is (keeps_same _ _ n.does.pending)
   step-keeps (steps.Emit who most fair) reply w n = absurd w
+  step-keeps (steps.EmitPart who most fair part) reply w n = absurd w
   step-keeps (steps.Deliver number index) reply w n = delivered_so number index reply n
   step-keeps (steps.Lose number) reply w n = loses_so number reply n
   step-keeps (steps.Ack number) reply w n = acks_so number reply n

@@ -13,11 +13,12 @@ use Rattle.quic_history.specs.World.{World}
 use Rattle.quic_history.specs.Control.{SettlesEntry, SettlesReset, reset_frame}
 use Rattle.quic_history.specs.declared.control.ControlKind.{ControlKind}
 use Rattle.quic_history.specs.declared.control.ControlKind.TheVariants as kinds
-use Rattle.quic_streams.specs.Payload.{Sheet, PayloadPlace, with_frame_written_if, SettlesOne, SettlesSome, none, more, WritesKinds, control_order}
+use Rattle.quic_streams.specs.Payload.{Sheet, PayloadPlace, with_frame_written_if, SettlesOne, SettlesSome, none, more, WritesKinds}
 use Rattle.quic_link.specs.Endpoints.{IsOneOf}
 use Rattle.quic_endpoint.specs.Ends.{EndState}
-use Rattle.quic_endpoint.specs.Emitting.{PayloadView, control_in, place_at, EmitsAt, whole, cut}
+use Rattle.quic_endpoint.specs.Emitting.{PayloadView, control_in, place_at}
 use Rattle.quic_exchange.proofs.Lists.{one-of-first, one-of-last}
+use Rattle.quic_exchange.proofs.Emissions.{EmitsSomeAt, whole, cut}
 
 -- what became of a reset while frames were written
 abbrev pub IsLeftOf : World → Pending → Pending → ℕ × ℕ → Type 0
@@ -132,21 +133,21 @@ module _ (z : ℕ × ℕ) where
   ]
 
   -- what was pending is so still, or is noted of the payload, or its half was freed before
-  control_left : (most : ℕ) (e f : EndState) (payload : PayloadView) (bytes : List ℕ) (before after : FrameStats) (answer : Result (Unit {0}) OutOfMemory) → WritesKinds most control_order (place_at e [] nothing before) answer (place_at f bytes (control_in payload) after)
+  control_left : (most : ℕ) (all : List ControlKind) (e f : EndState) (payload : PayloadView) (bytes : List ℕ) (before after : FrameStats) (answer : Result (Unit {0}) OutOfMemory) → WritesKinds most all (place_at e [] nothing before) answer (place_at f bytes (control_in payload) after)
       → IsOneOf z e.pending.reset_stream → IsOneOf z f.pending.reset_stream ⊎ (IsOneOf z (control_in payload).reset_stream ⊎ (e.streams.out.halves z.0 ≡ None))
-  control_left most e f payload bytes before after answer w i =
-      let out : f.streams.out ≡ e.streams.out = kinds_out most control_order (place_at e [] nothing before) (place_at f bytes (control_in payload) after) answer w in
-      elim (kinds_left most control_order (place_at e [] nothing before) (place_at f bytes (control_in payload) after) answer w (inl i)) [
+  control_left most all e f payload bytes before after answer w i =
+      let out : f.streams.out ≡ e.streams.out = kinds_out most all (place_at e [] nothing before) (place_at f bytes (control_in payload) after) answer w in
+      elim (kinds_left most all (place_at e [] nothing before) (place_at f bytes (control_in payload) after) answer w (inl i)) [
         | inl pending ↦ inl pending
         | inr (inl noted) ↦ inr (inl noted)
         | inr (inr gone) ↦ inr (inr (sym (ap (λ (x : Outgoing). x.halves z.0) out) ∙ gone))
       ]
 
-pub emits-left : {most : ℕ} {fair : Bool} {e f : EndState} {payload : PayloadView} {answer : Result (Unit {0}) OutOfMemory} (z : ℕ × ℕ) → EmitsAt most fair e payload answer f → IsOneOf z e.pending.reset_stream
+pub emits-left : {most : ℕ} {fair : Bool} {e f : EndState} {payload : PayloadView} {answer : Result (Unit {0}) OutOfMemory} (z : ℕ × ℕ) → EmitsSomeAt most fair e payload answer f → IsOneOf z e.pending.reset_stream
     → IsOneOf z f.pending.reset_stream ⊎ (IsOneOf z (control_in payload).reset_stream ⊎ (e.streams.out.halves z.0 ≡ None))
 emits-left {most} {fair} {e} {f} {payload} z (whole {answer} between bytes c d) i =
     let P : Pending → Type 0 = λ r. IsOneOf z r.reset_stream ⊎ (IsOneOf z (control_in payload).reset_stream ⊎ (e.streams.out.halves z.0 ≡ None)) in
-    subst P (sym d.pending) (control_left z most e between payload bytes c.before c.after (Ok tt) c.writes i)
-emits-left {most} {fair} {e} {f} {payload} z (cut {error} between bytes c d) i =
+    subst P (sym d.pending) (control_left z most c.kinds e between payload bytes c.before c.after (Ok tt) c.writes i)
+emits-left {most} {fair} {e} {f} {payload} z (cut {first} between bytes c d) i =
     let P : EndState → Type 0 = λ x. IsOneOf z x.pending.reset_stream ⊎ (IsOneOf z (control_in payload).reset_stream ⊎ (e.streams.out.halves z.0 ≡ None)) in
-    subst P (sym d.same) (control_left z most e between payload bytes c.before c.after (Err error) c.writes i)
+    subst P (sym d.same) (control_left z most c.kinds e between payload bytes c.before c.after first c.writes i)

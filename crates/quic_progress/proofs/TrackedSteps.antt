@@ -25,9 +25,10 @@ use Rattle.quic_exchange.specs.Sent.{Sent}
 use Rattle.quic_exchange.specs.Payloads.{SentText, is_accepted, noted_of}
 use Rattle.quic_exchange.specs.Replies.{Answer}
 use Rattle.quic_exchange.specs.State.{PairState, peer, the_end, with_end, with_sent}
-use Rattle.quic_exchange.specs.Steps.{NextOrdinary, Emits, Emitted}
+use Rattle.quic_exchange.specs.Steps.{NextOrdinary}
 use Rattle.quic_exchange.specs.Tale.{Tales, StepTells}
 use Rattle.quic_exchange.specs.History.{Past}
+use Rattle.quic_exchange.proofs.Emissions.{EmitsSome, EmittedSome, emitted-some, emitted-part}
 use Rattle.quic_exchange.proofs.Lists.{slice_get-push, slice_get-append_left, one-of-first}
 use Rattle.quic_exchange.proofs.Marks.{sent_on_end}
 use Rattle.quic_exchange.proofs.Origins.{Origin}
@@ -66,7 +67,7 @@ told_whole (StreamsOf d) w i = omega arith
 no_mark : (s : Sent) (index : ℕ) → s.text.accepted ≡ [] → is_accepted s.text index ≡ true → ⊥
 no_mark s index e h = let k = sym (ap (λ l. slice_index_or l index false) e) ∙ h in cc
 
-module _ {some : Which} (old new : PairState) (t u : Tales) (c : IsTracked some old t) (g : AllGrow t u) (who : End) (most : ℕ) (fair : Bool) (answer : Result (Unit {0}) OutOfMemory) (payload : PayloadView) (e : Emits old who most fair answer payload new) (x : Emptied (the_end old who) e.end payload) where
+module _ {some : Which} (old new : PairState) (t u : Tales) (c : IsTracked some old t) (g : AllGrow t u) (who : End) (most : ℕ) (fair : Bool) (answer : Result (Unit {0}) OutOfMemory) (payload : PayloadView) (e : EmitsSome old who most fair answer payload new) (x : Emptied (the_end old who) e.end payload) where
   sent_then : new.sent ≡ old.sent ++ e.sent ∷ []
   sent_then = ap (λ (v : PairState). v.sent) e.is
 
@@ -151,11 +152,11 @@ module _ {some : Which} (old new : PairState) (t u : Tales) (c : IsTracked some 
   tracked_emits = record { within = λ other. (kept other).0; firsts = λ other. (kept other).1; heard = heard; tracks = λ other. (kept other).2 }
 
 module _ {some : Which} (a b : Origin) (p : Past) (old new : PairState) (j : Joined a b p old) (t u : Tales) (c : IsTracked some old t) (g : AllGrow t u) (who : End) (most : ℕ) (fair : Bool) where
-  emits_tracked : (answer : Result (Unit {0}) OutOfMemory) (payload : PayloadView) → Emits old who most fair answer payload new → IsTracked some new u
+  emits_tracked : (answer : Result (Unit {0}) OutOfMemory) (payload : PayloadView) → EmitsSome old who most fair answer payload new → IsTracked some new u
   emits_tracked answer payload e = tracked_emits old new t u c g who most fair answer payload e
       (seen-as a b p old who j (Emptied (the_end old who) e.end payload) (λ x y side s. emptied x y s.linked s.here (c.within who) e.emits))
 
-  emitted_tracked : (reply : Answer) → Emitted old who most fair reply new → IsTracked some new u
+  emitted_tracked : (reply : Answer) → EmittedSome old who most fair reply new → IsTracked some new u
   emitted_tracked (Ok (Payload number bytes)) e = emits_tracked (Ok tt) e.payload e.emits
   emitted_tracked (Err NoMemory) e = elim e [
     | inl same ↦ tracked-same old new t u c g (record { reads = λ q. false; credits = false; resizes = false; frees = false }) (λ other. let P : PairState → Type 0 = λ v. EndLeaves (record { reads = λ q. false; credits = false; resizes = false; frees = false }) (the_end old other) (the_end v other) in subst P (sym same) (ends-same _ (the_end old other))) (ap (λ (v : PairState). v.sent) same)
@@ -168,6 +169,7 @@ module _ {some : Which} (a b : Origin) (p : Past) (old new : PairState) (j : Joi
 -- a step beside payloads
 abbrev pub IsBeside : Step → Type 0
 IsBeside (steps.Emit who most fair) = ⊥
+IsBeside (steps.EmitPart who most fair part) = ⊥
 IsBeside (steps.Deliver number index) = ⊥
 IsBeside (steps.Lose number) = ⊥
 IsBeside (steps.Ack number) = ⊥
@@ -175,6 +177,7 @@ IsBeside _ = Unit {0}
 
 writes_none : (step : Step) → IsBeside step → WritesNone step
 writes_none (steps.Emit who most fair) b = absurd b
+writes_none (steps.EmitPart who most fair part) b = absurd b
 writes_none _ b = tt
 
 pub sents-beside : (old new : PairState) (step : Step) (reply : Answer) → IsBeside step → NextOrdinary old step reply new → new.sent ≡ old.sent
@@ -193,6 +196,7 @@ sents-beside old new (steps.SetReceiveWindow who window) reply b n = sent_on_end
 sents-beside old new (steps.SetMaxConcurrent who dir count) reply b n = sent_on_end old who new n
 sents-beside old new (steps.Poll who) reply b n = sent_on_end old who new n
 sents-beside old new (steps.Emit who most fair) reply b n = absurd b
+sents-beside old new (steps.EmitPart who most fair part) reply b n = absurd b
 sents-beside old new (steps.Deliver number index) reply b n = absurd b
 sents-beside old new (steps.Lose number) reply b n = absurd b
 sents-beside old new (steps.Ack number) reply b n = absurd b
@@ -203,7 +207,8 @@ module _ {some : Which} (a b : Origin) (p : Past) (old new : PairState) (j : Joi
   tracked_beside step reply k n g = tracked-same old new t u c g (may_of step) (step-leaves old new step reply (writes_none step k) n) (sents-beside old new step reply k n)
 
   pub tracked-next : (step : Step) (reply : Answer) → NextOrdinary old step reply new → StepTells old.sent new.sent step reply t u → IsTracked some new u
-  tracked-next (steps.Emit who most fair) reply n e = emitted_tracked a b p old new j t u c (all-grow old.sent new.sent (steps.Emit who most fair) reply t u e) who most fair reply n
+  tracked-next (steps.Emit who most fair) reply n e = emitted_tracked a b p old new j t u c (all-grow old.sent new.sent (steps.Emit who most fair) reply t u e) who most fair reply (emitted-some old new who most fair reply n)
+  tracked-next (steps.EmitPart who most fair part) reply n e = emitted_tracked a b p old new j t u c (all-grow old.sent new.sent (steps.EmitPart who most fair part) reply t u e) who most fair reply (emitted-part old new who most fair part reply n)
   tracked-next (steps.Deliver number index) reply n e = tracked-delivered old new t u c (all-grow old.sent new.sent (steps.Deliver number index) reply t u e) number index reply n (step-leaves old new (steps.Deliver number index) reply tt n) e
   tracked-next (steps.Lose number) reply n e = tracked-loses old new t u c (all-grow old.sent new.sent (steps.Lose number) reply t u e) number reply (step-leaves old new (steps.Lose number) reply tt n) n
   tracked-next (steps.Ack number) reply n e = tracked-acks old new t u c (all-grow old.sent new.sent (steps.Ack number) reply t u e) number reply (step-leaves old new (steps.Ack number) reply tt n) n

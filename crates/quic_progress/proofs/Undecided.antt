@@ -29,8 +29,9 @@ use Rattle.quic_exchange.specs.Payloads.{SentText}
 use Rattle.quic_exchange.specs.Replies.{Answer}
 use Rattle.quic_exchange.specs.Gone.{IsGone, with_noted, with_all_noted, noted_at}
 use Rattle.quic_exchange.specs.State.{PairState, the_end}
-use Rattle.quic_exchange.specs.Steps.{NextOrdinary, Emits, Emitted, Reports, SettlesPayload, needs_decision}
+use Rattle.quic_exchange.specs.Steps.{NextOrdinary, Reports, SettlesPayload, needs_decision}
 use Rattle.quic_exchange.specs.Tale.{Part, Carried, GivenUp, parts_in}
+use Rattle.quic_exchange.proofs.Emissions.{EmitsSome, EmittedSome, emitted-some, emitted-part}
 use Rattle.quic_exchange.proofs.Lists.{slice_get-push, slice_get-slice_set}
 use Rattle.quic_exchange.proofs.Left.{AreLeft}
 use Rattle.quic_exchange.proofs.OwnDoings.{AreUntaken, AreSpelled, untaken-here}
@@ -108,13 +109,13 @@ module _ (old new : PairState) (n : NoneBegun old.sent) where
   none_at : new ≡ old → NoneBegun new.sent
   none_at e = none_same (ap (λ (v : PairState). v.sent) e)
 
-  none_emits : (who : End) (most : ℕ) (fair : Bool) (answer : Result (Unit {0}) OutOfMemory) (payload : PayloadView) → Emits old who most fair answer payload new → NoneBegun new.sent
+  none_emits : (who : End) (most : ℕ) (fair : Bool) (answer : Result (Unit {0}) OutOfMemory) (payload : PayloadView) → EmitsSome old who most fair answer payload new → NoneBegun new.sent
   none_emits who most fair answer payload e number s rest got begun left = elim (slice_get-push old.sent e.sent number s (ap (λ (v : PairState). slice_get v.sent number) (sym e.is) ∙ got)) [
     | inl before ↦ n number s rest before begun left
     | inr now ↦ none-some Acknowledged (sym e.sent_is.begun ∙ ap (λ (v : Sent). v.unsettled.begun) (sym now.1) ∙ begun)
   ]
 
-  none_emitted : (who : End) (most : ℕ) (fair : Bool) (reply : Answer) → Emitted old who most fair reply new → NoneBegun new.sent
+  none_emitted : (who : End) (most : ℕ) (fair : Bool) (reply : Answer) → EmittedSome old who most fair reply new → NoneBegun new.sent
   none_emitted who most fair (Ok (Payload number bytes)) e = none_emits who most fair (Ok tt) e.payload e.emits
   none_emitted who most fair (Err NoMemory) e = elim e [ inl same ↦ none_at same | inr part ↦ none_emits who most fair part.answer part.payload part.emits ]
   none_emitted who most fair _ e = absurd e
@@ -162,7 +163,8 @@ module _ (old new : PairState) (n : NoneBegun old.sent) where
     none_beside step reply b o = none_same (sents-beside old new step reply b o)
 
     pub none-next : (step : Step) (reply : Answer) → needs_decision step ≡ false → NextOrdinary old step reply new → NoneBegun new.sent
-    none-next (steps.Emit who most fair) reply by o = none_emitted who most fair reply o
+    none-next (steps.Emit who most fair) reply by o = none_emitted who most fair reply (emitted-some old new who most fair reply o)
+    none-next (steps.EmitPart who most fair part) reply by o = none_emitted who most fair reply (emitted-part old new who most fair part reply o)
     none-next (steps.Deliver number index) reply by o = cc
     none-next (steps.Lose number) reply by o = none_lost number reply o
     none-next (steps.Ack number) reply by o = none_acks number reply o

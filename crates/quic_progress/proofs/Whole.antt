@@ -24,8 +24,9 @@ use Rattle.quic_link.specs.Endpoints.{IsOneOf}
 use Rattle.quic_link.proofs.Ends.{ArePlain}
 use Rattle.quic_endpoint.specs.Receiving.{MakesCall, event_of, done_so, stopped_so}
 use Rattle.quic_endpoint.specs.Ends.{EndState}
-use Rattle.quic_endpoint.specs.Emitting.{PayloadView, control_in, EmitsControl, EmitsStreams, EmitsAt, whole, cut}
+use Rattle.quic_endpoint.specs.Emitting.{PayloadView, control_in, EmitsStreams}
 use Rattle.quic_progress.proofs.Spent.{with_outstanding, outstanding}
+use Rattle.quic_exchange.proofs.Emissions.{EmitsKinds, EmitsSomeAt, whole, cut}
 
 -- an end came from calls that go on from others, of which no reader is open that was not before
 pub record Run (m : Made) (h : List Event) (v : World) : Type 0 where
@@ -217,7 +218,7 @@ module _ (most : ℕ) (fair : Bool) where
   turns_stay [] h x i = i
   turns_stay (t ∷ ts) h x i = turns_stay ts (Sending (TookTurn most fair t) ∷ h) x (inr i)
 
-runs_control : (m : Made) (most : ℕ) (e f : EndState) (answer : Result (Unit {0}) OutOfMemory) (bytes : List ℕ) (sent : Pending) → EmitsControl most e answer f bytes sent → Runs m e.streams f.streams
+runs_control : (m : Made) (most : ℕ) (e f : EndState) (answer : Result (Unit {0}) OutOfMemory) (bytes : List ℕ) (sent : Pending) → EmitsKinds most e answer f bytes sent → Runs m e.streams f.streams
 runs_control m most e f answer bytes sent k h from plain =
     let w = k.from in
     record { calls = with_entries w.entries h; from = w.from m h from; plain = entries_plain w.entries h plain; same = entries_out w.entries h; stays = entries_stay w.entries h }
@@ -227,11 +228,11 @@ runs_streams m most fair e f answer bytes payload k h from plain =
     let w = k.from in
     record { calls = with_turns most fair w.turns h; from = w.from m h from; plain = turns_plain most fair w.turns h plain; same = turns_out most fair w.turns h; stays = turns_stay most fair w.turns h }
 
-pub runs-emits : {most : ℕ} {fair : Bool} {e f : EndState} {payload : PayloadView} {answer : Result (Unit {0}) OutOfMemory} (m : Made) → EmitsAt most fair e payload answer f → Runs m e.streams f.streams
+pub runs-emits : {most : ℕ} {fair : Bool} {e f : EndState} {payload : PayloadView} {answer : Result (Unit {0}) OutOfMemory} (m : Made) → EmitsSomeAt most fair e payload answer f → Runs m e.streams f.streams
 runs-emits {most} {fair} {e} {f} {payload} m (whole {answer} between bytes c d) =
     runs-then m e.streams between.streams f.streams (runs_control m most e between (Ok tt) bytes (control_in payload) c) (runs_streams m most fair between f answer bytes payload d)
-runs-emits {most} {fair} {e} {f} {payload} m (cut {error} between bytes c d) =
-    runs-at m e.streams f.streams between.streams (ap (λ (x : EndState). x.streams) d.same) (runs_control m most e between (Err error) bytes (control_in payload) c)
+runs-emits {most} {fair} {e} {f} {payload} m (cut {first} between bytes c d) =
+    runs-at m e.streams f.streams between.streams (ap (λ (x : EndState). x.streams) d.same) (runs_control m most e between first bytes (control_in payload) c)
 
 -- ---- reports
 

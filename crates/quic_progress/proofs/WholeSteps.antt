@@ -28,8 +28,9 @@ use Rattle.quic_exchange.specs.declared.unsettled.Report.TheVariants.{Lost, Ackn
 use Rattle.quic_exchange.specs.Replies.{Answer, handled_reply}
 use Rattle.quic_exchange.specs.State.{PairState, peer, the_end, with_end, with_sent}
 use Rattle.quic_exchange.specs.Calls.{OnGiven, ReadsSo}
-use Rattle.quic_exchange.specs.Steps.{NextOrdinary, HandsOver, Delivers, SettlesPayload, Emits, Emitted}
+use Rattle.quic_exchange.specs.Steps.{NextOrdinary, HandsOver, Delivers, SettlesPayload}
 use Rattle.quic_exchange.specs.History.{Past}
+use Rattle.quic_exchange.proofs.Emissions.{EmitsSome, EmittedSome, emitted-some, emitted-part}
 use Rattle.quic_exchange.proofs.Origins.{Origin}
 use Rattle.quic_exchange.proofs.Eras.{Changes, accepts, retries}
 use Rattle.quic_exchange.proofs.OwnDoings.{own-unacked}
@@ -109,10 +110,10 @@ module _ (old new : PairState) (m : End → Made) where
   acks_so number (Err NotAccepted) n = both_same n.is
   acks_so number _ n = absurd n
 
-  emits_so : (who : End) (most : ℕ) (fair : Bool) (answer : Result (Unit {0}) OutOfMemory) (payload : _) → Emits old who most fair answer payload new → Both
+  emits_so : (who : End) (most : ℕ) (fair : Bool) (answer : Result (Unit {0}) OutOfMemory) (payload : _) → EmitsSome old who most fair answer payload new → Both
   emits_so who most fair answer payload n = both_sent who n.end _ n.is (runs-emits (m who) n.emits)
 
-  emitted_so : (who : End) (most : ℕ) (fair : Bool) (reply : Answer) → Emitted old who most fair reply new → Both
+  emitted_so : (who : End) (most : ℕ) (fair : Bool) (reply : Answer) → EmittedSome old who most fair reply new → Both
   emitted_so who most fair (Ok (Payload number bytes)) n = emits_so who most fair (Ok tt) n.payload n.emits
   emitted_so who most fair (Err NoMemory) n = elim n [ inl same ↦ both_same same | inr part ↦ emits_so who most fair part.answer part.payload part.emits ]
   emitted_so who most fair _ n = absurd n
@@ -146,7 +147,8 @@ module _ (old new : PairState) (m : End → Made) where
   step-runs (steps.SetMaxConcurrent who dir count) reply n = let e = the_end old who in let s = n.does.sets in
       both_end who n.end n.is (runs-at (m who) e.streams n.end.streams s.set.streams (ap (λ (x : EndState). x.streams) s.is ∙ told-streams _ s.set) (runs-call (m who) e.streams s.set.streams (SetConcurrent dir count n.does.answer) tt s.sets))
   step-runs (steps.Poll who) reply n = both_end who n.end n.is (runs-call (m who) _ n.end.streams (Sending (Polled n.does.event)) tt n.does.polls)
-  step-runs (steps.Emit who most fair) reply n = emitted_so who most fair reply n
+  step-runs (steps.Emit who most fair) reply n = emitted_so who most fair reply (emitted-some old new who most fair reply n)
+  step-runs (steps.EmitPart who most fair part) reply n = emitted_so who most fair reply (emitted-part old new who most fair part reply n)
   step-runs (steps.Deliver number index) reply n = delivered_so number index reply n
   step-runs (steps.Lose number) reply n = loses_so number reply n
   step-runs (steps.Ack number) reply n = acks_so number reply n

@@ -5,4 +5,4 @@ mod steps;
 #[cfg(test)]
 mod tests;
 
-pub use steps::{Config, End, Last, PairError, Reply, Step};
+pub use steps::{Config, End, Last, PairError, PayloadPart, Reply, Step};

@@ -34,6 +34,15 @@ pub struct Config {
     pub ghost bi_in_range: { max_remote_bi ≤ 2 ^ 60 },
 }
 
+/// The frames that a payload has, if it has those of one kind alone.
+#[derive(Clone, Copy, Debug, PartialEq, Eq)]
+pub enum PayloadPart {
+    /// Frames beside STREAM and DATAGRAM (RFC 9000 sections 19.4, 19.5 and 19.9 to 19.13).
+    Control,
+    /// STREAM frames (RFC 9000 section 19.8).
+    Streams,
+}
+
 /// What is done with the pair. `who` is the end that acts, `id` a stream that `Open` or `Accept`
 /// gave on that end.
 #[derive(Debug, Drop, PartialEq, Eq)]
@@ -119,6 +128,13 @@ pub enum Step {
         who: End,
         max_size: usize,
         fair: bool,
+    },
+    /// Writes the frames of one part alone into a payload of at most `max_size` bytes. Frames of the other part stay pending.
+    EmitPart {
+        who: End,
+        max_size: usize,
+        fair: bool,
+        part: PayloadPart,
     },
     /// Hands one frame of a payload to the other end. May be done again, in any order.
     Deliver {
@@ -207,7 +223,7 @@ pub enum PairError {
     NotAccepted,
     #[error("unknown stream id")]
     UnknownId,
-    /// Out of memory: the step was not taken. But an `Emit` may have made its payload, with the
+    /// Out of memory: the step was not taken. But an `Emit` or an `EmitPart` may have made its payload, with the
     /// frames that were written before, and a `Lose` or an `Ack` may have reported the first frames of its payload. That
     /// report may be asked again, and then goes on; the other of the two is refused from now on.
     #[error("out of memory")]
