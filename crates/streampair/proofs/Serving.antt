@@ -13,7 +13,7 @@ use Rattle.streampair.specs.declared.session.Stop.{Stop}
 use Rattle.streampair.specs.declared.session.Stop.TheVariants.{Malformed, NoPair, Failed, OutOfMemory, TooManyLines}
 use Rattle.quic_lines.specs.declared.lines.LineError.{LineError}
 use Rattle.quic_lines.specs.declared.lines.LineError.TheVariants as lines
-use Rattle.streampair.specs.Session.{Answers, MeansNothing, IsPairDue, Serves, begin, line, IsServed, IsStopOf, StopsAt, IsWrittenBehind, BeginsReply, BeginsLast, IsMalformed, last_line, end_line, no_line, status, stop_of}
+use Rattle.streampair.specs.Session.{Answers, MeansNothing, IsPairDue, Serves, begin, line, IsServed, IsStopOf, StopsAt, IsWrittenBehind, BeginsReply, BeginsLast, ExitsWith, IsMalformed, last_line, end_line, no_line, status, stop_of}
 use Rattle.streampair.specs.Streams.{AppendsPart, TakesFirstLine}
 
 -- one write after the other
@@ -388,6 +388,32 @@ status_malformed input old new (Err NoPair) h e = cc
 status_malformed input old new (Err Failed) h e = cc
 status_malformed input old new (Err OutOfMemory) h e = cc
 status_malformed input old new (Err TooManyLines) h e = cc
+
+-- the facts of a result that has the exit status
+of_error : {T : Type 0} (r : Result T Stop) (stop : Stop) (P : Type 0) → IfErr r (λ s. s ≡ stop → P) → r ≡ Err stop → P
+of_error (Ok x) stop P h e = cc
+of_error (Err s) stop P h e = h (cc)
+
+pub exits_with : (input old new : Option (List ℕ)) (F A B C : Type 0) (ended : Result (Unit {0}) Stop) (code : ℕ) → code ≡ status ended → OnOk ended (IfSome input (λ all. IsServed all old new)) → IfErr ended (λ stop. IfSome input (λ all. StopsAt all last_line old new stop)) → ((ended ≡ Err Failed → ⊥) → F) → IfErr ended (λ stop. stop ≡ Failed → A) → IfErr ended (λ stop. stop ≡ NoPair → B) → IfErr ended (λ stop. stop ≡ OutOfMemory → C) → ExitsWith input old new F A B C code
+exits_with input old new F A B C ended code is served stops flushed failed no_pair no_memory = record {
+  ended = ended;
+  code_is = is;
+  served = served;
+  stops = stops;
+  flushed = flushed;
+  failed = of_error ended Failed A failed;
+  no_pair = of_error ended NoPair B no_pair;
+  no_memory = of_error ended OutOfMemory C no_memory;
+}
+
+pub exits_small : (input old new : Option (List ℕ)) (F A B C : Type 0) (code : ℕ) → ExitsWith input old new F A B C code → code ≤ 2
+exits_small input old new F A B C code h = rw h.code_is (status-small h.ended)
+
+pub exits_served : (input old new : Option (List ℕ)) (F A B C : Type 0) (code : ℕ) → ExitsWith input old new F A B C code → code ≡ 0 → IfSome input (λ all. IsServed all None None)
+exits_served input old new F A B C code h e = status_served input old new h.ended h.served (sym h.code_is ∙ e)
+
+pub exits_malformed : (input old new : Option (List ℕ)) (F A B C : Type 0) (code : ℕ) → ExitsWith input old new F A B C code → code ≡ 2 → IfSome input (λ all. IsMalformed all None None)
+exits_malformed input old new F A B C code h e = status_malformed input old new h.ended h.stops (sym h.code_is ∙ e)
 
 -- a reader of which nothing was read has what is behind it
 pub unread : (known : Option (List ℕ)) → prepend_known [] known ≡ known

@@ -1,5 +1,5 @@
 -- What a session answers to its lines.
-use Rattle.std.specs.Prelude.{true, false, ◌≡◌, ◌⊎◌, ◌+◌, ◌-◌, ◌^◌, ◌<◌, ℕ, List, [], ◌++◌, length, Option, Result, Ok, Err, OnOk, IfErr, Some, codes, string_bytes}
+use Rattle.std.specs.Prelude.{true, false, ◌≡◌, ◌⊎◌, ◌+◌, ◌-◌, ◌^◌, ◌<◌, ℕ, List, [], ◌++◌, length, Option, Result, Ok, Err, OnOk, IfErr, IfSome, Some, codes, string_bytes}
 use Rattle.std.specs.Fmt.{decimal}
 use Rattle.std.specs.List.{flat_map}
 use Rattle.std.specs.Str.{IsAscii}
@@ -242,3 +242,16 @@ status (Err NoPair) = 1
 status (Err Failed) = 1
 status (Err OutOfMemory) = 1
 status (Err TooManyLines) = 1
+
+-- a session ended with this exit status: it is that of a result, of which the facts stand here. Status 0: the input ended, each
+-- line has its reply and nothing else was written, and the output was flushed. 2: a line was malformed, and the output was flushed.
+-- 1: a read, a write or a flush failed, memory for a pair, or for a line or its reply, was refused, or there are too many lines
+pub record ExitsWith (input old new : Option (List ℕ)) (is_flushed has_failed has_no_pair has_no_memory : Type 0) (code : ℕ) : Type 0 where
+  pub ended : Result (Unit {0}) Stop
+  pub code_is : code ≡ status ended
+  pub served : OnOk ended (IfSome input (λ all. IsServed all old new))
+  pub stops : IfErr ended (λ stop. IfSome input (λ all. StopsAt all last_line old new stop))
+  pub flushed : (ended ≡ Err Failed → ⊥) → is_flushed
+  pub failed : ended ≡ Err Failed → has_failed
+  pub no_pair : ended ≡ Err NoPair → has_no_pair
+  pub no_memory : ended ≡ Err OutOfMemory → has_no_memory

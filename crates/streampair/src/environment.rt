@@ -27,6 +27,8 @@ pub trait Environment {
     ghost has_failed: { Self → Type 0 };
     // Memory for a pair was refused.
     ghost has_no_pair: { Self → Type 0 };
+    // Memory for a line or for its reply was refused.
+    ghost has_no_memory: { Self → Type 0 };
 
     /// The allocator of lines and steps.
     fn alloc(&self) -> Global;
@@ -45,12 +47,21 @@ pub trait Environment {
         ensures part { OnErr result (AppendsPart (written self.old) (written self.new) text.now) }
         ensures failed { OnErr result (has_failed self.new) }
         ensures still_failed { has_failed self.old → has_failed self.new }
-        ensures still_no_pair { has_no_pair self.old → has_no_pair self.new };
+        ensures still_no_pair { has_no_pair self.old → has_no_pair self.new }
+        ensures still_no_memory { has_no_memory self.old → has_no_memory self.new };
 
     fn flush(&mut self) -> Result<(), StreamFailed>
         ensures written { Keeps (written self.old) (written self.new) }
         ensures flushed { OnOk result (is_flushed self.new) }
         ensures failed { OnErr result (has_failed self.new) }
+        ensures still_failed { has_failed self.old → has_failed self.new }
+        ensures still_no_pair { has_no_pair self.old → has_no_pair self.new }
+        ensures still_no_memory { has_no_memory self.old → has_no_memory self.new };
+
+    /// Is called with the error of a call that had no memory for a line or for its reply.
+    fn note_out_of_memory(&mut self, error: OutOfMemory)
+        ensures written { written self.new ≡ written self.old }
+        ensures no_memory { has_no_memory self.new }
         ensures still_failed { has_failed self.old → has_failed self.new }
         ensures still_no_pair { has_no_pair self.old → has_no_pair self.new };
 

@@ -8,7 +8,7 @@ mod streams;
 
 pub use environment::{Environment, StreamFailed};
 pub use quic_lines::{hex_bytes, hex_field};
-pub use session::{Session, Stop, answer_lines, serve};
+pub use session::{Session, Stop, answer_lines, serve, serve_in};
 use std::io;
 use std::process::ExitCode;
 

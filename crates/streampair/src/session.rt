@@ -4,7 +4,7 @@ ghost use Rattle.std.specs.Str.{IsAscii};
 ghost use Rattle.std.specs.Io.KnownBytes.{Appends};
 ghost use Rattle.quic_pair.specs.Shown.{pair_view};
 ghost use Rattle.quic_lines.specs.Grammar.{MeansConfig, MeansNoConfig, MeansNoEarly};
-ghost use Rattle.streampair.specs.Session.{answer_line, lines_of, Answers, AnswersReady, AnswersRunning, IsStep, IsSettlement, settlement_text, IsServed, IsMalformed, IsEarlyLine, IsMadeOf, IsPairDue, IsStopOf, end_line, last_line, malformed_line, MeansNoLine, MeansNothing, no_line, status, StopsAt, stop_of, text_bytes};
+ghost use Rattle.streampair.specs.Session.{answer_line, lines_of, Answers, AnswersReady, AnswersRunning, ExitsWith, IsStep, IsSettlement, settlement_text, IsServed, IsMalformed, IsEarlyLine, IsMadeOf, IsPairDue, IsStopOf, end_line, last_line, malformed_line, MeansNoLine, MeansNothing, no_line, status, StopsAt, stop_of, text_bytes};
 ghost use Rattle.streampair.specs.Streams.{AppendsPart};
 
 use crate::environment::{Environment, StreamFailed};
@@ -296,6 +296,19 @@ impl Session {
     }
 }
 
+// Notes that memory ran out, if a session stopped for that.
+fn note<E: Environment>(environment: &mut E, stop: Stop)
+    ensures written { E.written environment.new ≡ E.written environment.old }
+    ensures no_memory { stop ≡ Stop.OutOfMemory → E.has_no_memory environment.new }
+    ensures still_failed { E.has_failed environment.old → E.has_failed environment.new }
+    ensures still_no_pair { E.has_no_pair environment.old → E.has_no_pair environment.new }
+{
+    match stop {
+        Stop::OutOfMemory => environment.note_out_of_memory(OutOfMemory),
+        _ => (),
+    }
+}
+
 // Answers all lines, with a session at its start.
 fn run<E: Environment>(environment: &mut E, session: &mut Session) -> Result<(), Stop>
     requires { session.old ≡ Session.Start }
@@ -303,6 +316,7 @@ fn run<E: Environment>(environment: &mut E, session: &mut Session) -> Result<(),
     ensures stops { IfErr result (λ stop. IfSome (E.unread environment.old) (λ input. StopsAt input no_line (E.written environment.old) (E.written environment.new) stop)) }
     ensures failed { IfErr result (λ stop. stop ≡ Stop.Failed → E.has_failed environment.new) }
     ensures no_pair { IfErr result (λ stop. stop ≡ Stop.NoPair → E.has_no_pair environment.new) }
+    ensures no_memory { IfErr result (λ stop. stop ≡ Stop.OutOfMemory → E.has_no_memory environment.new) }
 {
     let mut line = Vec::new(environment.alloc());
     for number in 1..u64::MAX {
@@ -311,7 +325,10 @@ fn run<E: Environment>(environment: &mut E, session: &mut Session) -> Result<(),
         }
         match session.answer(environment, number, line.as_slice()) {
             Ok(text) => environment.write(text.as_bytes())?,
-            Err(stop) => return Err(stop),
+            Err(stop) => {
+                note(environment, stop);
+                return Err(stop);
+            }
         }
     }
     Err(Stop::TooManyLines)
@@ -323,6 +340,7 @@ fn answer_all<E: Environment>(environment: &mut E) -> Result<(), Stop>
     ensures stops { IfErr result (λ stop. IfSome (E.unread environment.old) (λ input. StopsAt input no_line (E.written environment.old) (E.written environment.new) stop)) }
     ensures failed { IfErr result (λ stop. stop ≡ Stop.Failed → E.has_failed environment.new) }
     ensures no_pair { IfErr result (λ stop. stop ≡ Stop.NoPair → E.has_no_pair environment.new) }
+    ensures no_memory { IfErr result (λ stop. stop ≡ Stop.OutOfMemory → E.has_no_memory environment.new) }
 {
     let mut session = Session::Start;
     run(environment, &mut session)
@@ -335,6 +353,7 @@ fn write_malformed<E: Environment>(environment: &mut E, number: u64) -> Result<(
     ensures failed { OnErr result (E.has_failed environment.new) }
     ensures still_failed { E.has_failed environment.old → E.has_failed environment.new }
     ensures still_no_pair { E.has_no_pair environment.old → E.has_no_pair environment.new }
+    ensures still_no_memory { E.has_no_memory environment.old → E.has_no_memory environment.new }
 {
     let mut digits = Buffer::new();
     environment.write(b"malformed ")?;
@@ -352,6 +371,7 @@ fn write_last_line<E: Environment>(
     ensures failed { OnErr result (E.has_failed environment.new) }
     ensures still_failed { E.has_failed environment.old → E.has_failed environment.new }
     ensures still_no_pair { E.has_no_pair environment.old → E.has_no_pair environment.new }
+    ensures still_no_memory { E.has_no_memory environment.old → E.has_no_memory environment.new }
 {
     match ended {
         Err(Stop::Malformed(number)) => write_malformed(environment, number),
@@ -362,14 +382,16 @@ fn write_last_line<E: Environment>(
 
 /// Answers each line of the input, writes a last line if a line is malformed or there is no memory for a pair, and flushes.
 ///
-/// Fails with [`Stop::Failed`] only if a read, a write or a flush failed, and with [`Stop::NoPair`] only if memory for a pair that was
-/// due was refused. The lines before have their replies; if a stream failed, a beginning of one reply more may have been written.
+/// Fails with [`Stop::Failed`] only if a read, a write or a flush failed, with [`Stop::NoPair`] only if memory for a pair that was due
+/// was refused, and with [`Stop::OutOfMemory`] only if memory for a line or for its reply was. The lines before have their replies; if
+/// a stream failed, a beginning of one reply more may have been written.
 pub fn answer_lines<E: Environment>(environment: &mut E) -> Result<(), Stop>
     ensures served { OnOk result (IfSome (E.unread environment.old) (λ input. IsServed input (E.written environment.old) (E.written environment.new))) }
     ensures stops { IfErr result (λ stop. IfSome (E.unread environment.old) (λ input. StopsAt input last_line (E.written environment.old) (E.written environment.new) stop)) }
     ensures flushed { (result ≡ Err Stop.Failed → ⊥) → E.is_flushed environment.new }
     ensures failed { IfErr result (λ stop. stop ≡ Stop.Failed → E.has_failed environment.new) }
     ensures no_pair { IfErr result (λ stop. stop ≡ Stop.NoPair → E.has_no_pair environment.new) }
+    ensures no_memory { IfErr result (λ stop. stop ≡ Stop.OutOfMemory → E.has_no_memory environment.new) }
 {
     let ended = answer_all(environment);
     write_last_line(environment, ended)?;
@@ -387,8 +409,22 @@ fn status_of(ended: Result<(), Stop>) -> u8
     }
 }
 
-/// Answers each line of the input by a line of the output, as [`answer_lines`]. Returns the exit status: 0 at the end of input, 2 at a
-/// malformed line, 1 if a read or a write failed or memory ran out outside of a step.
+/// Answers each line of an environment's input, as [`answer_lines`]. Returns the exit status of what came of it: 0 if the input ended,
+/// each line has its reply and the output was flushed; 2 if a line is malformed and the output was flushed; 1 if a read, a write or a
+/// flush failed, memory for a pair, a line or a reply was refused, or the input has 2^64 - 1 lines or more. No other session has the
+/// status: in an environment of which nothing is known, a failure can be shown only by the call that failed.
+#[tactic(auto, using(crate::proofs::Serving::exits_with))]
+pub fn serve_in<E: Environment>(environment: &mut E) -> u8
+    ensures { ExitsWith (E.unread environment.old) (E.written environment.old) (E.written environment.new) (E.is_flushed environment.new) (E.has_failed environment.new) (E.has_no_pair environment.new) (E.has_no_memory environment.new) result }
+{
+    status_of(answer_lines(environment))
+}
+
+/// Answers each line of the input by a line of the output, as [`serve_in`] with these streams as its environment, and returns its exit
+/// status, or 1 if there was no memory for the reader's buffer.
+///
+/// Neither a reader nor a writer has a fact that tells whether a call of it failed, so these postconditions speak of 0 and 2 alone. That
+/// 1 has a cause is the postcondition of [`serve_in`].
 pub fn serve<R: Read + Drop, W: Write + Drop>(alloc: Global, input: R, output: W) -> u8
     ensures status { result ≤ 2 }
     ensures served { result ≡ 0 → IfSome (R.remaining input) (λ bytes. IsServed bytes None None) }
@@ -402,5 +438,5 @@ pub fn serve<R: Read + Drop, W: Write + Drop>(alloc: Global, input: R, output: W
         input: reader,
         output,
     };
-    status_of(answer_lines(&mut streams))
+    serve_in(&mut streams)
 }

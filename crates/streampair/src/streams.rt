@@ -24,12 +24,14 @@ impl<R: Read, W: Write> Environment for Streams<R, W> {
     ghost unread = { λ it. reader_remaining R.remaining it.input };
 
     ghost written = { λ it. W.contents it.output };
-    // A session is proved for any meaning of these three: streams carry no fact of their own.
+    // A session is proved for any meaning of these four: streams carry no fact of their own.
     ghost is_flushed = { λ _. ⊤ };
 
     ghost has_failed = { λ _. ⊤ };
 
     ghost has_no_pair = { λ _. ⊤ };
+
+    ghost has_no_memory = { λ _. ⊤ };
 
     fn alloc(&self) -> Global {
         self.alloc
@@ -51,6 +53,8 @@ impl<R: Read, W: Write> Environment for Streams<R, W> {
     fn flush(&mut self) -> Result<(), StreamFailed> {
         self.output.flush().or(Err(StreamFailed))
     }
+
+    fn note_out_of_memory(&mut self, _error: OutOfMemory) {}
 
     fn make_pair(
         &self,

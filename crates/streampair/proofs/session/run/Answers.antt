@@ -1,4 +1,4 @@
-use Rattle.std.proofs.Common.{◌≡◌, ◌-◌, ◌^◌, ℕ, List, Option, Bool, true, rules, sym, subst, arith}
+use Rattle.std.proofs.Common.{◌≡◌, ◌∙◌, ◌-◌, ◌^◌, ℕ, List, Option, Bool, true, rules, sym, subst, arith}
 use Rattle.std.specs.Io.KnownBytes.{Appends}
 use Rattle.streampair.specs.Session.{Answers}
 use Rattle.streampair.specs.Streams.{AppendsPart, TakesFirstLine}
@@ -30,8 +30,8 @@ returns-in-Err-clause-stops g c =
     let E = g.E.Environment in
     let found : c.in_ok-read_line.field-0 ≡ true = search rules in
     let takes = subst (λ (x : List ℕ). TakesFirstLine (E.unread c.loop-number.environment) x (E.unread c.read_line.new.self)) (sym c.as_slice.ensures.value) (c.in_ok-read_line.ensures.line found) in
-    Progress-stop (E.unread c.args.environment.now) c.loop-number.number c.loop-number.session (E.unread c.loop-number.environment) (E.unread c.read_line.new.self) (E.written c.args.environment.now) (E.written c.loop-number.environment) (E.written c.read_line.new.self) c.as_slice.result.now c.in-Err.stop
-    c.loop-number.invariant takes c.in_ok-read_line.ensures.written c.in-Err.ensures.stops
+    Progress-stop (E.unread c.args.environment.now) c.loop-number.number c.loop-number.session (E.unread c.loop-number.environment) (E.unread c.read_line.new.self) (E.written c.args.environment.now) (E.written c.loop-number.environment) (E.written c.note.new.environment) c.as_slice.result.now c.in-Err.stop
+    c.loop-number.invariant takes (c.note.ensures.written ∙ c.in_ok-read_line.ensures.written) c.in-Err.ensures.stops
 
 pub loop-number-preserved : goal.loop-number-preserved
 loop-number-preserved g c =
