@@ -273,10 +273,17 @@ class End:
         if direction_of(id) == "bi" or opener_of(id) != self.name:
             self.receive[id] = ReceiveHalf(self.stream_window)
 
-    def has_rest(self):
-        """Whether bytes, ends, resets or stops have to be sent."""
-        sends = any(half.has_rest() or half.resets_due for half in self.send.values())
-        return sends or any(half.stops_due for half in self.receive.values())
+    def has_data(self):
+        """Whether bytes or ends have to be sent."""
+        return any(half.has_rest() for half in self.send.values())
+
+    def has_control(self):
+        """Whether resets or stops have to be sent."""
+        return any(half.resets_due for half in self.send.values()) or any(half.stops_due for half in self.receive.values())
+
+    def has_rest(self, part=None):
+        """Whether any of these have, or those that a part of a payload is for."""
+        return part != "control" and self.has_data() or part != "streams" and self.has_control()
 
     def write_room(self):
         written = sum(len(half.written) for half in self.send.values())
@@ -527,6 +534,7 @@ class Model:
         self.judges = {
             "read": self.take_read,
             "emit": self.take_emit,
+            "emit-part": self.take_emit_part,
         }
 
     # -- refusals
@@ -743,7 +751,14 @@ class Model:
 
     # -- the network
 
-    def take_emit(self, reply, name, most, _fairness):
+    def take_emit_part(self, reply, name, most, fairness, part):
+        """A payload with the frames of one part alone."""
+        self.take_emit(reply, name, most, fairness, part)
+        is_stream = [isinstance(sent.frame, Stream) for sent in self.payloads[-1].sent]
+        check(not any(is_stream) if part == "control" else all(is_stream), "a frame of the other part")
+        self.tally[f"{part} alone"] += bool(is_stream)
+
+    def take_emit(self, reply, name, most, _fairness, part=None):
         end = self.ends[name]
         kind, number, field = reply.split(" ")
         data = bytes_of(field)
@@ -757,7 +772,7 @@ class Model:
         has_length = not any(is_stream) or frames[-1].has_length
         check(has_length or len(data) == int(most), "a frame without a length does not fill its payload")
         is_full = int(most) - len(data) <= GREATEST_HEAD
-        check(is_full or not end.has_rest(), "what fits is not sent")
+        check(is_full or not end.has_rest(part), "what fits is not sent")
         self.payloads.append(Payload(name, [Sent(frame) for frame in frames]))
 
     def deliver(self, number, index):

@@ -204,6 +204,15 @@ class Draws:
         return draw(self, name)
 
 
+class DrawsOfParts(Draws):
+    """The same, where many payloads have the frames of one part alone."""
+
+    def line(self, step):
+        line = super().line(step)
+        is_whole = not line.startswith("emit ") or self.once_in(3)
+        return line if is_whole else f"emit-part {line[5:]} {self.of('control', 'streams')}"
+
+
 class Program:
     """A running `streampair`, which answers each line at once."""
 
@@ -235,9 +244,9 @@ class Program:
         return reply[:-1]
 
 
-def run_session(seed, tally):
+def run_session(seed, tally, drawn=Draws):
     """Draws a session, and has the model check each reply."""
-    draws = Draws(seed, tally)
+    draws = drawn(seed, tally)
     said = []
     with Program() as running:
 
@@ -263,6 +272,13 @@ class SeededSessions(unittest.TestCase):
         for seed in range(SESSIONS):
             run_session(seed, tally)
         for kind, least in LEAST.items():
+            self.assertGreater(tally[kind], least, kind)
+
+    def test_so_is_each_reply_where_payloads_have_one_part(self):
+        tally = collections.Counter()
+        for seed in range(SESSIONS):
+            run_session(seed, tally, DrawsOfParts)
+        for kind, least in (LEAST | {"control alone": 1000, "streams alone": 1000}).items():
             self.assertGreater(tally[kind], least, kind)
 
 

@@ -69,6 +69,11 @@ class Lines(Sessions):
         b"priority a 2 -2147483649",
         b"priority a 2 --1",
         b"emit a 30 g",
+        b"emit-part a 30 f",
+        b"emit-part a 30 f datagrams",
+        b"emit-part a 30 g streams",
+        b"emit-part c 30 f streams",
+        b"emit a 30 f streams",
         b"max-concurrent a uni 1152921504606846977",
         b"deliver 0",
         b"deliver 0 18446744073709551616",
@@ -282,6 +287,16 @@ class Streams(Sessions):
         self.session_gives(
             "open a uni\nwrite a 2 68\nemit a 25 f\nemit a 26 f\n",
             "id 2\nwrote 1\npayload 0 -\npayload 1 0a020168\n",
+        )
+
+    def test_a_payload_may_have_one_part_alone(self):
+        self.session_gives(
+            "open a uni\nopen a uni\nwrite a 2 68\nreset a 6 7\nemit-part a 100 f streams\nemit-part a 100 u control\n"
+            "emit-part a 100 f streams\nemit-part a 100 f control\nack 1\ndeliver 1 0\ndeliver 0 0\nack 1\nlose 0\n"
+            "emit-part a 100 f control\nemit-part a 3 f streams\nemit a 100 f\n",
+            "id 2\nid 6\nwrote 1\nok\npayload 0 0a020168\npayload 1 04060700\n"
+            "payload 2 -\npayload 3 -\nrefused 3 NotAccepted\nok\nok\nok\nok\n"
+            "payload 4 -\npayload 5 -\npayload 6 0a020168\n",
         )
 
     def test_an_empty_write_is_sent_as_an_empty_frame(self):

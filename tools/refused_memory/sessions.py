@@ -38,6 +38,7 @@ MOST_REQUESTS = {
     "early-accept": (5, 0),
     "early-reject": (3, 0),
     "emit": (10, 2),
+    "emit-part": (10, 2),
     "finish": (5, 0),
     "lose": (8, 0),
     "max-concurrent": (11, 0),
@@ -53,6 +54,11 @@ MOST_REQUESTS = {
     "stop": (9, 0),
     "write": (15, 0),
 }
+# Steps that write a payload.
+EMITS = ("emit", "emit-part")
+# Steps that also ask for memory that they can do without: room for a whole payload at once, or for a freed stream's state to be
+# kept for the next stream. Without it the reply is the same.
+CAN_DO_WITHOUT = {*EMITS, "read", "received-reset", "stop", "deliver", "ack"}
 # A step that is refused for one of these reasons says so, though memory for it was refused too.
 OTHER_REASON = re.compile(r"closed|stopped")
 NAMES_WANT = re.compile(r"\b(OutOfMemory|memory|CompactionMemory)\b")
@@ -133,6 +139,9 @@ class Draw:
     def window(self):
         return self.random.choice(WINDOWS)
 
+    def size(self):
+        return self.random.choice((26, 60, 200, 1200))
+
     def direction(self):
         return self.random.choice(("bi", "uni"))
 
@@ -152,14 +161,15 @@ class Draw:
         return f"{chosen} {end} {id}{rest.get(chosen, str)()}"
 
     def on_end(self, end):
-        chosen = self.random.choices(("open", "accept", "send-window", "receive-window", "max-concurrent", "poll", "emit"), (8, 6, 1, 1, 1, 6, 13))[0]
+        chosen = self.random.choices(("open", "accept", "send-window", "receive-window", "max-concurrent", "poll", "emit", "emit-part"), (8, 6, 1, 1, 1, 6, 11, 2))[0]
         rest = {
             "open": lambda: f" {self.direction()}",
             "accept": lambda: f" {self.direction()}",
             "send-window": lambda: f" {self.window()}",
             "receive-window": lambda: f" {self.window()}",
             "max-concurrent": lambda: f" {self.direction()} {self.count(6)}",
-            "emit": lambda: f" {self.random.choice((26, 60, 200, 1200))} {self.random.choice('fu')}",
+            "emit": lambda: f" {self.size()} {self.random.choice('fu')}",
+            "emit-part": lambda: f" {self.size()} {self.random.choice('fu')} {self.random.choice(('control', 'streams'))}",
         }
         return f"{chosen} {end}{rest.get(chosen, str)()}"
 
@@ -276,7 +286,7 @@ def parts_of(line, reply):
     verb = line.split()[0]
     if verb == "chunks":
         return line.count(",") + 1
-    if verb == "emit" and reply.startswith("payload"):
+    if verb in EMITS and reply.startswith("payload"):
         return len(frames_of(reply.split()[2]))
     return reply.count(":") if verb == "read" else 0
 
@@ -327,6 +337,7 @@ class Check:
     def refused(self, lines, ample, refused, made):
         """Returns what is wrong where this request is refused, if anything is."""
         status, _, replies = self.program.run(lines, refused)
+        step = [*lines, ""][bisect.bisect_left(made, refused)]
         named = [at for at, it in enumerate(replies) if NAMES_WANT.search(it)]
         if len(named) > 1:
             return "more than one reply names want of memory"
@@ -344,6 +355,9 @@ class Check:
             return None
         if status == 1 and lines[2].startswith("early") and replies[2:] == ["refused 5 OutOfMemory"]:
             self.tally["at the third line"] += 1
+            return None
+        if replies == ample and not status and step.partition(" ")[0] in CAN_DO_WITHOUT:
+            self.tally["in a step that can do without"] += 1
             return None
         if status or not named:
             return f"status {status}, and {len(named)} replies name want of memory"
@@ -365,7 +379,7 @@ class Check:
         if verb == "read":
             same = given_bytes(again, replies) == given_bytes(lines, ample)
             return self.differs(lines, replies[1:], ample, at + 1) if same else "reads give other bytes"
-        if verb != "emit" or not self.differs(lines, replies[1:], ample, at):
+        if verb not in EMITS or not self.differs(lines, replies[1:], ample, at):
             return self.differs(lines, replies[1:], ample, at)
         as_sent = moved(lines, ample, at, replies[at + 1])
         if as_sent:
