@@ -16,8 +16,9 @@
  * closed handle, except qs_conn_open, returns QS_ERR_CLOSED. A call with a
  * number above its bound returns QS_ERR_ARGUMENT. A call lists all other values
  * that it returns. If nothing else is said, a call that returns an error
- * changes nothing, and an out-parameter is written only with the return values
- * that name it.
+ * changes nothing, except that it may queue a MAX_STREAMS frame that had become
+ * due by qs_set_max_concurrent or qs_zero_rtt_rejected; and an out-parameter is
+ * written only with the return values that name it.
  *
  * @par Numbers
  * Stream ids, offsets, limits, receive windows and application error codes are
@@ -34,18 +35,23 @@
  * out-parameters. The library keeps no pointer of the host after a call, and
  * shows its own memory by qs_emit_lent, qs_stream_read_lent and qs_buffer.
  *
+ * @par Questions
+ * A call with a const handle changes nothing that a later call can see. While
+ * it runs, it writes to the handle all the same: no other call on the handle
+ * may run beside it, and the handle is in memory that can be written.
+ *
  * @par Structs that grow
- * qs_config, qs_peer_limits, qs_info, qs_payload and qs_due are lists of 64-bit
- * numbers, and a later version may add numbers at their end. The calls that
- * read or fill them are inline functions of this header, which tell the library
- * how many numbers the host's struct has, so a host and a library of different
- * versions work together. A number that the host does not have counts as 0, and
- * 0 means "as before". A number that the library does not know is set to 0 in a
- * struct that it fills, and must be 0 in one that it reads: else the call
- * returns QS_ERR_ARGUMENT. So initialise a qs_config and a qs_peer_limits by
- * the names of their fields, or with zeros first. A binding of another language
- * calls the functions whose names end in _words; count is how many numbers its
- * struct has. All other structs stay as they are.
+ * qs_config, qs_peer_limits, qs_event, qs_info, qs_payload and qs_due are lists
+ * of 64-bit numbers, and a later version may add numbers at their end. The
+ * calls that read or fill them are inline functions of this header, which tell
+ * the library how many numbers the host's struct has, so a host and a library
+ * of different versions work together. A number that the host does not have
+ * counts as 0, and 0 means "as before". A number that the library does not know
+ * is set to 0 in a struct that it fills, and must be 0 in one that it reads:
+ * else the call returns QS_ERR_ARGUMENT. So initialise a qs_config and a
+ * qs_peer_limits by the names of their fields, or with zeros first. A binding
+ * of another language calls the functions whose names end in _words; count is
+ * how many numbers its struct has. All other structs stay as they are.
  *
  * @par Memory
  * The library allocates with malloc and realloc and releases with free. If that
@@ -195,6 +201,10 @@ typedef struct qs_config {
                                returns QS_ERR_DATAGRAMS_OFF too */
   uint64_t datagram_send; /**< bytes of datagrams that may be pending, each
                                with 32 more than its length; any number */
+  uint64_t track_streams; /**< 1: the session keeps a number of the host's own
+                               for each stream, and raises QS_EVENT_CLOSED.
+                               Each stream then takes some memory and time more
+                               until that event is polled. 0: neither */
 } qs_config;
 
 /** What qs_conn_open calls. */
@@ -292,8 +302,30 @@ QS_API int32_t qs_stream_open(qs_conn *conn, uint32_t dir, uint64_t *id);
  * @param dir QS_BIDI or QS_UNI
  * @param[out] id the stream, written with QS_OK only
  * @retval QS_OK the stream is accepted
- * @retval QS_DONE no stream waits to be accepted */
+ * @retval QS_DONE no stream waits to be accepted
+ * @retval QS_ERR_NOMEM out of memory; the stream waits still. Only if
+ *         track_streams is 1 */
 QS_API int32_t qs_stream_accept(qs_conn *conn, uint32_t dir, uint64_t *id);
+
+/** Sets a number of the host's own for a stream, for example the address of
+ * what the host keeps of it. Each later event of the stream has it. The session
+ * keeps such numbers only if track_streams is 1.
+ * @param id a stream that was opened or accepted and did not raise
+ *           QS_EVENT_CLOSED
+ * @param user any number; it is 0 at first
+ * @retval QS_OK it is set
+ * @retval QS_ERR_NO_STREAM there is no such stream, or track_streams is 0
+ * @retval QS_ERR_ARGUMENT id is 2^62 or above
+ * @retval QS_ERR_NOMEM out of memory; the number is as it was */
+QS_API int32_t qs_stream_set_user(qs_conn *conn, uint64_t id, uint64_t user);
+
+/** Returns the number that qs_stream_set_user set last for a stream.
+ * @param id as for qs_stream_set_user
+ * @param[out] user that number, 0 if none was set; written with QS_OK only
+ * @retval QS_OK *user is set
+ * @retval QS_ERR_NO_STREAM there is no such stream, or track_streams is 0
+ * @retval QS_ERR_ARGUMENT id is 2^62 or above */
+QS_API int32_t qs_stream_user(const qs_conn *conn, uint64_t id, uint64_t *user);
 
 /** Writes data to a stream, and copies it: len bytes, or as many as the peer's
  * limits and the send window allow. After a partial write call again with the
@@ -316,6 +348,41 @@ QS_API int32_t qs_stream_accept(qs_conn *conn, uint32_t dir, uint64_t *id);
  * @retval QS_ERR_NOMEM out of memory */
 QS_API int32_t qs_stream_write(qs_conn *conn, uint64_t id, const uint8_t *data,
                                size_t len, size_t *written, uint64_t *app_code);
+
+/** Writes data to a stream as qs_stream_write does, and finishes the stream in
+ * the same step if fin is not 0 and all of len was taken: the last STREAM frame
+ * of the data can have the FIN bit. If len is 0 and fin is not 0 it is
+ * qs_stream_finish, which needs no credit.
+ * @param data len bytes; may be NULL if len is 0
+ * @param fin not 0: no data follows
+ * @param[out] written bytes written, also with the errors listed here
+ * @param[out] app_code the peer's error code, with QS_ERR_STOPPED only
+ * @retval QS_OK *written bytes were taken, at least one if len is not 0. If fin
+ *         is not 0 and *written is len, the stream is finished, and
+ *         QS_EVENT_FINISHED follows when all is acknowledged.
+ * @retval QS_ERR_BLOCKED as qs_stream_write; *written is 0
+ * @retval QS_ERR_STOPPED as qs_stream_write; *written is 0
+ * @retval QS_ERR_NO_STREAM the send side is closed or never existed
+ * @retval QS_ERR_NOMEM out of memory. *written is 0, and nothing was written;
+ *         or it is len, all was written and the stream is not finished: call
+ *         qs_stream_finish. */
+QS_API int32_t qs_stream_write_fin(qs_conn *conn, uint64_t id,
+                                   const uint8_t *data, size_t len,
+                                   uint32_t fin, size_t *written,
+                                   uint64_t *app_code);
+
+/** Asks how many bytes one qs_stream_write would take now: the least of what
+ * the peer's limit for the stream, its limit for all streams and the send
+ * window allow. A write of len bytes takes len or *bytes, whichever is less. If
+ * *bytes is 0, a write of one byte is QS_ERR_BLOCKED or QS_ERR_STOPPED. Nothing
+ * is noted as blocked, so no event follows: write to get QS_EVENT_WRITABLE.
+ * @param[out] bytes written with QS_OK only; 0 if the peer stopped the stream,
+ *             and after qs_conn_close
+ * @retval QS_OK *bytes is set
+ * @retval QS_ERR_NO_STREAM a write would return it: the send side is finished,
+ *         reset or closed, or never existed */
+QS_API int32_t qs_stream_send_room(const qs_conn *conn, uint64_t id,
+                                   uint64_t *bytes);
 
 /** Finishes a stream: no data follows, and FIN is sent.
  * @param[out] app_code the peer's error code, with QS_ERR_STOPPED only
@@ -352,7 +419,7 @@ QS_API int32_t qs_stream_set_priority(qs_conn *conn, uint64_t id,
  * @param[out] priority written with QS_OK only
  * @retval QS_OK *priority is set
  * @retval QS_ERR_NO_STREAM the send side is closed or never existed */
-QS_API int32_t qs_stream_priority(qs_conn *conn, uint64_t id,
+QS_API int32_t qs_stream_priority(const qs_conn *conn, uint64_t id,
                                   int32_t *priority);
 
 /** Asks whether the peer sent STOP_SENDING for a stream.
@@ -360,7 +427,7 @@ QS_API int32_t qs_stream_priority(qs_conn *conn, uint64_t id,
  * @retval QS_OK it did
  * @retval QS_DONE it did not
  * @retval QS_ERR_NO_STREAM the send side is closed or never existed */
-QS_API int32_t qs_stream_stopped(qs_conn *conn, uint64_t id,
+QS_API int32_t qs_stream_stopped(const qs_conn *conn, uint64_t id,
                                  uint64_t *app_code);
 
 /** Asks whether the peer reset a stream.
@@ -476,8 +543,20 @@ QS_API int32_t qs_set_max_concurrent(qs_conn *conn, uint32_t dir,
 /** The kinds of events. The first data of a new stream raises QS_EVENT_OPENED
  * and no QS_EVENT_READABLE; later data of a stream that is not yet accepted
  * raises QS_EVENT_READABLE, and is read after it is accepted. A datagram that
- * qs_datagram_recv found too long for its buffer does not count for
- * QS_EVENT_DATAGRAM. */
+ * qs_datagram_recv found too long for its buffer can still be read, so the next
+ * one raises no QS_EVENT_DATAGRAM.
+ *
+ * QS_EVENT_CLOSED is raised only if track_streams is 1. It is the last event of
+ * each stream that was opened or accepted, raised when neither side of it is
+ * left. The receive side is gone once it was
+ * read to FIN, its reset was returned, or it was stopped and its final size is
+ * known; the send side once its FIN and all data, or its reset, are
+ * acknowledged (RFC 9000 sections 3.1 and 3.2). All other pending events are
+ * returned first. Streams that qs_zero_rtt_rejected discards raise none. The
+ * event is not lost if memory runs out. Proved: when it is raised, neither side
+ * is left, and none is raised for the stream again. Proved of each call alone,
+ * and not of all calls together: that qs_poll looks at each stream whose last
+ * side a call closed. */
 enum {
   QS_EVENT_OPENED = 1,    /**< the peer opened streams of dir: accept, read */
   QS_EVENT_READABLE = 2,  /**< id may have bytes, FIN or a reset to read */
@@ -486,23 +565,34 @@ enum {
   QS_EVENT_STOPPED = 5,   /**< STOP_SENDING, app_code, for id: reset it */
   QS_EVENT_AVAILABLE = 6, /**< more streams of dir may be opened */
   QS_EVENT_DATAGRAM = 7,  /**< a datagram can be read, and none could before */
-  QS_EVENT_DATAGRAM_ROOM = 8 /**< a blocked datagram may be queued now */
+  QS_EVENT_DATAGRAM_ROOM = 8, /**< a blocked datagram may be queued now */
+  QS_EVENT_CLOSED = 9 /**< both sides of id are gone: free what belongs to
+                           it. Only if track_streams is 1 */
 };
 
 /** An event. Look at kind first: a field that the kind does not have is 0, and
  * 0 is a stream id, a direction and an error code too. */
 typedef struct qs_event {
-  uint32_t kind;     /**< QS_EVENT_* */
-  uint32_t dir;      /**< with each kind but the datagrams': QS_BIDI, QS_UNI */
-  uint64_t id;       /**< READABLE, WRITABLE, FINISHED, STOPPED: the stream */
+  uint64_t kind;     /**< QS_EVENT_* */
+  uint64_t dir;      /**< with each kind but the datagrams': QS_BIDI, QS_UNI */
+  uint64_t id;       /**< READABLE, WRITABLE, FINISHED, STOPPED, CLOSED: the
+                          stream */
   uint64_t app_code; /**< STOPPED: application error code */
+  uint64_t user;     /**< with an id: the number that qs_stream_set_user set
+                          last for the stream, 0 if it set none and if
+                          track_streams is 0 */
 } qs_event;
+
+/** What qs_poll calls. */
+QS_API int32_t qs_poll_words(qs_conn *conn, uint64_t *words, size_t count);
 
 /** Removes and returns the next event.
  * @param[out] event written with QS_OK only
  * @retval QS_OK *event is set
  * @retval QS_DONE there is none */
-QS_API int32_t qs_poll(qs_conn *conn, qs_event *event);
+static inline int32_t qs_poll(qs_conn *conn, qs_event *event) {
+  return qs_poll_words(conn, (uint64_t *)event, sizeof *event / 8);
+}
 
 /** The state of a session. */
 typedef struct qs_info {
@@ -524,13 +614,45 @@ typedef struct qs_info {
 } qs_info;
 
 /** What qs_get_info calls. */
-QS_API int32_t qs_get_info_words(qs_conn *conn, uint64_t *words, size_t count);
+QS_API int32_t qs_get_info_words(const qs_conn *conn, uint64_t *words,
+                                 size_t count);
 
 /** Reads the state of the session.
  * @param[out] info written with QS_OK only
  * @retval QS_OK *info is set */
-static inline int32_t qs_get_info(qs_conn *conn, qs_info *info) {
+static inline int32_t qs_get_info(const qs_conn *conn, qs_info *info) {
   return qs_get_info_words(conn, (uint64_t *)info, sizeof *info / 8);
+}
+
+/** How many frames a session sent and received, from its start, and how many
+ * bytes were declared lost. A frame that is sent again after a loss counts
+ * again. A received frame counts when it is processed, also if it is rejected;
+ * one that is processed again after QS_ERR_NOMEM counts again. Each number
+ * stops at 2^64-1. */
+typedef struct qs_stats {
+  uint64_t sent_stream, sent_reset_stream, sent_stop_sending, sent_max_data,
+      sent_max_stream_data, sent_max_streams_bidi, sent_max_streams_uni,
+      sent_data_blocked, sent_stream_data_blocked,
+      sent_datagram; /**< frames that were written into payloads */
+  uint64_t received_stream, received_reset_stream, received_stop_sending,
+      received_max_data, received_max_stream_data, received_max_streams_bidi,
+      received_max_streams_uni, received_data_blocked,
+      received_stream_data_blocked,
+      received_datagram; /**< frames of the peer */
+  uint64_t lost_bytes;   /**< stream data of the payloads that were reported
+                              lost, in bytes: it is sent again, but for what a
+                              reset or another payload made needless */
+} qs_stats;
+
+/** What qs_get_stats calls. */
+QS_API int32_t qs_get_stats_words(const qs_conn *conn, uint64_t *words,
+                                  size_t count);
+
+/** Reads the counters of the session.
+ * @param[out] stats written with QS_OK only
+ * @retval QS_OK *stats is set */
+static inline int32_t qs_get_stats(const qs_conn *conn, qs_stats *stats) {
+  return qs_get_stats_words(conn, (uint64_t *)stats, sizeof *stats / 8);
 }
 
 /* ---- buffers ------------------------------------------------------------- */
@@ -645,7 +767,9 @@ QS_API int32_t qs_receive_buffer(qs_conn *conn, qs_buffer *buffer, size_t len,
  * @retval QS_OK the frame was processed
  * @retval QS_ERR_PROTOCOL close the connection with *error. If the reassembly
  *         limit is exceeded (INTERNAL_ERROR), the data stays buffered.
- * @retval QS_ERR_NOMEM out of memory; the frame was not processed */
+ * @retval QS_ERR_NOMEM out of memory. The data may be buffered, but raised no
+ *         event: pass the frame in again, or treat the packet as not received
+ */
 QS_API int32_t qs_on_stream(qs_conn *conn, uint64_t id, uint64_t offset,
                             const uint8_t *data, size_t len, uint32_t fin,
                             size_t payload_len, qs_error *error);
@@ -784,12 +908,13 @@ typedef struct qs_due {
 } qs_due;
 
 /** What qs_get_due calls. */
-QS_API int32_t qs_get_due_words(qs_conn *conn, uint64_t *words, size_t count);
+QS_API int32_t qs_get_due_words(const qs_conn *conn, uint64_t *words,
+                                size_t count);
 
 /** Asks what is pending.
  * @param[out] due written with QS_OK only
  * @retval QS_OK *due is set */
-static inline int32_t qs_get_due(qs_conn *conn, qs_due *due) {
+static inline int32_t qs_get_due(const qs_conn *conn, qs_due *due) {
   return qs_get_due_words(conn, (uint64_t *)due, sizeof *due / 8);
 }
 
@@ -833,8 +958,8 @@ QS_API int32_t qs_datagram_send(qs_conn *conn, const uint8_t *data, size_t len,
  * @param[out] count its length, with QS_OK and QS_ERR_TOO_SMALL
  * @retval QS_OK the datagram is in data
  * @retval QS_DONE none was received
- * @retval QS_ERR_TOO_SMALL it is longer than cap and stays the oldest; from now
- *         on it does not count against datagram_receive */
+ * @retval QS_ERR_TOO_SMALL it is longer than cap and stays the oldest. It still
+ *         counts against datagram_receive, and further ones may drop it */
 QS_API int32_t qs_datagram_recv(qs_conn *conn, uint8_t *data, size_t cap,
                                 size_t *count);
 
@@ -843,14 +968,14 @@ QS_API int32_t qs_datagram_recv(qs_conn *conn, uint8_t *data, size_t cap,
  * @param[out] size written with QS_OK only
  * @retval QS_OK *size is set
  * @retval QS_ERR_DATAGRAMS_OFF the peer accepts none */
-QS_API int32_t qs_datagram_max_size(qs_conn *conn, size_t *size);
+QS_API int32_t qs_datagram_max_size(const qs_conn *conn, size_t *size);
 
 /** The free room among the pending datagrams: the length of the longest that
  * datagram_send can still take without dropping another. The limit of the path
  * and the peer may be lower; see qs_datagram_max_size.
  * @param[out] size written with QS_OK only
  * @retval QS_OK *size is set */
-QS_API int32_t qs_datagram_send_space(qs_conn *conn, size_t *size);
+QS_API int32_t qs_datagram_send_space(const qs_conn *conn, size_t *size);
 
 /** Sets the length of the longest datagram that the path and the peer accept,
  * and drops longer ones that are pending.
@@ -865,30 +990,36 @@ typedef struct qs_piece {
   size_t len;          /**< how many bytes */
 } qs_piece;
 
-/** Writes several pieces one after the other, by qs_stream_write, and then
- * finishes the stream, by qs_stream_finish, if fin is not 0.
+/** Writes several pieces one after the other, by qs_stream_write_fin, and
+ * finishes the stream with the last one if fin is not 0.
  * @param pieces count of them; may be NULL if count is 0
  * @param[out] written bytes of all pieces that were written; always set
  * @param[out] app_code the peer's error code, with QS_ERR_STOPPED only
  * @return QS_OK if all was written, and the stream finished if asked. Any
  *         other value is that of the call at which it stopped, after *written
  *         bytes: after QS_ERR_BLOCKED go on with the rest when
- *         QS_EVENT_WRITABLE is raised. */
+ *         QS_EVENT_WRITABLE is raised. With QS_ERR_NOMEM all may be written and
+ *         only the end be missing: then call qs_stream_finish. */
 static inline int32_t qs_stream_writev(qs_conn *conn, uint64_t id,
                                        const qs_piece *pieces, size_t count,
                                        uint32_t fin, size_t *written,
                                        uint64_t *app_code) {
   size_t piece, at, taken;
+  int32_t result;
   *written = 0;
   for (piece = 0; piece < count; piece++)
-    for (at = 0; at < pieces[piece].len; at += taken, *written += taken) {
-      const int32_t result =
-          qs_stream_write(conn, id, pieces[piece].data + at,
-                          pieces[piece].len - at, &taken, app_code);
+    for (at = 0; at < pieces[piece].len; at += taken) {
+      taken = 0; /* as it stays on a closed handle, and for a wrong id */
+      result = qs_stream_write_fin(conn, id, pieces[piece].data + at,
+                                   pieces[piece].len - at,
+                                   fin && piece + 1 == count, &taken, app_code);
+      *written += taken;
       if (result != QS_OK)
         return result;
     }
-  return fin ? qs_stream_finish(conn, id, app_code) : QS_OK;
+  if (fin && (count == 0 || pieces[count - 1].len == 0))
+    return qs_stream_finish(conn, id, app_code);
+  return QS_OK;
 }
 
 /** Whether a stream is unidirectional (RFC 9000 section 2.1). */

@@ -24,21 +24,21 @@ generate = importlib.util.module_from_spec(SPEC)
 SPEC.loader.exec_module(generate)
 
 # Structs of the exports by their names in the header, and fields and parameters that have another name there.
-STRUCTS = {"RawEvent": "qs_event", "RawError": "qs_error", "RawSlice": "qs_slice", "RawBuffer": "qs_buffer", "Handle": "qs_conn"}
+STRUCTS = {"RawError": "qs_error", "RawSlice": "qs_slice", "RawBuffer": "qs_buffer", "Handle": "qs_conn"}
 # Structs that grow, by the functions of the exports that read their words or list them.
 READ_WORDS = {"config_at": "qs_config", "limits_at": "qs_peer_limits"}
-FILLED_WORDS = {"info_words": "qs_info", "due_words": "qs_due", "payload_words": "qs_payload"}
+FILLED_WORDS = {"event_words": "qs_event", "info_words": "qs_info", "stats_words": "qs_stats", "due_words": "qs_due", "payload_words": "qs_payload"}
 FIELDS = {"max_remote_bi": "max_remote_bidi", "max_data": "initial_max_data", "max_streams_bidi": "initial_max_streams_bidi",
           "max_streams_uni": "initial_max_streams_uni", "stream_data_uni": "initial_max_stream_data_uni",
           "stream_data_bidi_local": "initial_max_stream_data_bidi_local", "bytes": "data", "slot": "at",
           "stream_data_bidi_remote": "initial_max_stream_data_bidi_remote"}
-PARAMETERS = {"handle": "conn", "bytes": "data", "out": "data", "place": "data", "told": "event"}
+PARAMETERS = {"handle": "conn", "bytes": "data", "out": "data", "place": "data", "told": "event", "room": "bytes"}
 # A slice is two parameters in C: its name there, and that of its length.
 LENGTHS = {"bytes": "len", "out": "cap", "payload": "len", "slices": "max", "words": "count"}
 CODES = {"OK": "QS_OK", "DONE": "QS_DONE", "END": "QS_END", "OTHER_FRAME": "QS_OTHER_FRAME", "NO_MEMORY": "QS_ERR_NOMEM"}
 EVENTS = {"StreamEvent::Opened": "OPENED", "StreamEvent::Readable": "READABLE", "StreamEvent::Writable": "WRITABLE",
           "StreamEvent::Finished": "FINISHED", "StreamEvent::Stopped": "STOPPED", "StreamEvent::Available": "AVAILABLE",
-          "DatagramEvent::Received": "DATAGRAM", "DatagramEvent::Unblocked": "DATAGRAM_ROOM"}
+          "DatagramEvent::Received": "DATAGRAM", "DatagramEvent::Unblocked": "DATAGRAM_ROOM", "Some(Closed": "CLOSED"}
 
 
 def texts():
@@ -64,12 +64,12 @@ class Exports:
         self.structs.update(self.words(text))
         self.version = [int(number, 0) for number in re.findall(r"^const VERSION: u32 = (\w+);", text, flags=re.M)]
         self.bodies = [self.functions(it) for it in files]
-        exported = re.findall(r'#\[unsafe\(no_mangle\)\]\s*pub extern "C" fn (\w+)\((.*?)\)(?: -> (\w+))?\s*ensures', text, flags=re.S)
-        self.calls = {name: (result or "void", list(self.parameters(listed))) for name, listed, result in exported}
+        exported = re.findall(r'#\[unsafe\(no_mangle\)\]\s*pub extern "C" fn (\w+)\((.*?)\)(?: -> (\w+))?\s*ensures \{ (\w+)', text, flags=re.S)
+        self.calls = {name: (result or "void", self.asked(list(self.parameters(listed)), clause)) for name, listed, result, clause in exported}
         clauses = re.findall(r'pub extern "C" fn (\w+)\([^{]*?\)(?: -> \w+)?\s*((?:ensures[^\n]*\n\s*)+)\{\n', text)
         self.clauses = dict(clauses)
         self.events = {}
-        for pattern, number in re.findall(r"((?:Stream|Datagram)Event::\w+)[^=]*=>\s*(?:\{\s*)?(?:Some\()?event\(\s*(\d+)", text):
+        for pattern, number in re.findall(r"((?:Stream|Datagram)Event::\w+|Some\(Closed)[^=]*=>\s*(?:\{\s*)?(?:Some\()?event\(\s*(\d+)", text):
             self.events["QS_EVENT_" + EVENTS[pattern]] = int(number)
 
     @staticmethod
@@ -115,6 +115,12 @@ class Exports:
                 yield LENGTHS[name], "usize"
             else:
                 yield PARAMETERS.get(name, name), Exports.type_of(kind)
+
+    @staticmethod
+    def asked(parameters, clause):
+        """A question leaves the session as it is, by its contract: the header has a const handle for it."""
+        constant = [(name, kind.replace("*mut qs_conn", "*const qs_conn")) for name, kind in parameters]
+        return constant if clause == "Questions" else parameters
 
     @staticmethod
     def functions(text):
@@ -231,7 +237,7 @@ def documented(header, call):
     if not parameters:
         return set()
     listed = header.results(call.removesuffix("_words"))
-    if parameters[0].type == "*mut qs_conn" and call not in ("qs_conn_open_words", "qs_conn_free"):
+    if parameters[0].type in ("*mut qs_conn", "*const qs_conn") and call not in ("qs_conn_open_words", "qs_conn_free"):
         listed.add("QS_ERR_CLOSED")
     bounded = {"id", "dir", "app_code", "limit", "final_size", "parts"} & {it.name for it in parameters if "*" not in it.type}
     if bounded or call == "qs_set_receive_window":

@@ -8,7 +8,8 @@ from pair_model import ENDS, OTHER, bytes_of, direction_of
 
 PLAIN = {c.OK: "ok", c.DONE: "none", c.NO_STREAM: "closed", c.BLOCKED: "blocked", c.ORDER: "illegal", c.TOO_SMALL: "small"}
 REPORTS = {c.OK: "ok", c.TOKEN: "unknown"}
-EVENTS = {1: "opened", 2: "readable", 3: "writable", 4: "finished", 5: "stopped", 6: "available", 7: "datagram", 8: "datagram-room"}
+EVENTS = {1: "opened", 2: "readable", 3: "writable", 4: "finished", 5: "stopped", 6: "available", 7: "datagram", 8: "datagram-room", 9: "closed"}
+STOPPED_EVENT, OF_STREAMS = 5, (2, 3, 4, 5, 9)
 DATAGRAM_REPLIES = {c.OK: "ok", c.BLOCKED: "blocked", c.DATAGRAMS_OFF: "off", c.TOO_LARGE: "large"}
 ON_FRAMES = {ResetStream: "reset_stream", StopSending: "stop_sending", MaxData: "max_data", MaxStreamData: "max_stream_data"}
 READS = {"o": "read", "u": "read_unordered"}
@@ -74,8 +75,9 @@ class Host:
 
     # -- what a session begins with
 
-    def config(self, name, uni, bi, send, receive, stream, *datagrams):
-        numbers = [ENDS.index(name), *map(int, (uni, bi, send, receive, stream)), number_or_none(datagrams[0], "off"), int(datagrams[1])]
+    def config(self, name, uni, bi, send, receive, stream, *others):
+        datagrams = [number_or_none(others[0], "off"), int(others[1])]
+        numbers = [ENDS.index(name), *map(int, (uni, bi, send, receive, stream)), *datagrams, int(others[2])]
         return plain(self.ends[name].configure("conn_open", numbers))
 
     def limits(self, name, *fields):
@@ -116,16 +118,31 @@ class Host:
 
     def writev(self, name, id, pieces, fin):
         """As the header's qs_stream_writev."""
-        total = 0
-        for piece in map(bytes_of, pieces.split(",")):
+        total, listed = 0, [bytes_of(it) for it in pieces.split(",")]
+        for at, piece in enumerate(listed):
             while piece:
-                reply = self.write(name, id, piece.hex())
-                if not reply.startswith("wrote"):
-                    return f"wrote {total} {reply}"
-                count = int(reply.split(" ")[1])
+                ends = fin == "fin" and at + 1 == len(listed)
+                result, count, code = self.ends[name].write_fin(int(id), piece, ends)
+                total += count
+                if result != c.OK:
+                    return f"wrote {total} {told(result, code, c.STOPPED)}"
+                check_same(code, UNWRITTEN)
                 check(count > 0, "a write of nothing")
-                total, piece = total + count, piece[count:]
-        return f"wrote {total} {self.finish(name, id) if fin == 'fin' else 'ok'}"
+                piece = piece[count:]
+        if fin == "fin" and not listed[-1]:
+            return f"wrote {total} {self.finish(name, id)}"
+        return f"wrote {total} ok"
+
+    def room(self, name, id):
+        result, room = self.ends[name].call_out("stream_send_room", int(id))
+        return f"room {room}" if result == c.OK else told(result, room)
+
+    def set_user(self, name, id, user):
+        return plain(self.ends[name].call("stream_set_user", int(id), int(user)))
+
+    def user(self, name, id):
+        result, user = self.ends[name].call_out("stream_user", int(id))
+        return f"user {user}" if result == c.OK else told(result, user)
 
     def finish(self, name, id):
         return told(*self.ends[name].call_out("stream_finish", int(id)), c.STOPPED)
@@ -272,18 +289,18 @@ class Host:
     # -- what a session says
 
     def poll(self, name):
-        result, event = self.ends[name].poll()
+        result, words = self.ends[name].words("poll", c.EVENT_WORDS)
         if result != c.OK:
-            check_same(event.id, UNWRITTEN)
+            check_same(set(words), {UNWRITTEN})
             return plain(result)
-        word = EVENTS[event.kind]
-        is_of_stream = event.kind in (2, 3, 4, 5)
-        check(is_of_stream or event.id == 0, "an event with an id")
-        check(event.kind == 5 or event.app_code == 0, "an event with a code")
+        kind, dir, id, code, user = words
+        word, is_of_stream = EVENTS[kind], kind in OF_STREAMS
+        check(is_of_stream or id == user == 0, "an event with an id or a word")
+        check(kind == STOPPED_EVENT or code == 0, "an event with a code")
         if is_of_stream:
-            check_same(DIRECTIONS[event.dir], direction_of(event.id))
-            return f"{word} {event.id}{f' {event.app_code}' if event.kind == 5 else ''}"
-        return word if event.kind in (7, 8) else f"{word} {DIRECTIONS[event.dir]}"
+            check_same(DIRECTIONS[dir], direction_of(id))
+            return f"{word} {id}{f' {code}' if kind == STOPPED_EVENT else ''} user {user}"
+        return word if kind in (7, 8) else f"{word} {DIRECTIONS[dir]}"
 
     def due(self, name):
         return self.numbers(name, "due", c.DUE_WORDS)

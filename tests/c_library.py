@@ -12,7 +12,7 @@ SHARED = os.path.join(FOLDER, "libquic_streams.so")
 OK, DONE, END, OTHER_FRAME = range(4)
 NO_STREAM, BLOCKED, STOPPED, RESET, ORDER, PROTOCOL, MALFORMED, TOKEN, DATAGRAMS_OFF, TOO_LARGE, TOO_SMALL = range(-5, -16, -1)
 NONE = 2**64 - 1
-CONFIG_WORDS, LIMIT_WORDS, PAYLOAD_WORDS, DUE_WORDS, INFO_WORDS = 8, 7, 3, 3, 15
+CONFIG_WORDS, LIMIT_WORDS, EVENT_WORDS, PAYLOAD_WORDS, DUE_WORDS, INFO_WORDS = 9, 7, 5, 3, 3, 15
 # What an out-parameter is before the call, and what a buffer is filled with
 UNWRITTEN = 0x7A7A7A7A7A7A7A7A
 FILL = 0x7A
@@ -28,10 +28,6 @@ class Handle(ctypes.Structure):
 
 class Buffer(ctypes.Structure):
     _fields_ = [("live", U64), ("at", ctypes.c_void_p), ("data", BYTES), ("len", SIZE)]
-
-
-class Event(ctypes.Structure):
-    _fields_ = [("kind", ctypes.c_uint32), ("dir", ctypes.c_uint32), ("id", U64), ("app_code", U64)]
 
 
 class Slice(ctypes.Structure):
@@ -75,6 +71,10 @@ class Library:
         "qs_stream_open": (HANDLE, ctypes.c_uint32, OUT),
         "qs_stream_accept": (HANDLE, ctypes.c_uint32, OUT),
         "qs_stream_write": (HANDLE, U64, BYTES, SIZE, OUT_SIZE, OUT),
+        "qs_stream_write_fin": (HANDLE, U64, BYTES, SIZE, ctypes.c_uint32, OUT_SIZE, OUT),
+        "qs_stream_send_room": (HANDLE, U64, OUT),
+        "qs_stream_set_user": (HANDLE, U64, U64),
+        "qs_stream_user": (HANDLE, U64, OUT),
         "qs_stream_finish": (HANDLE, U64, OUT),
         "qs_stream_reset": (HANDLE, U64, U64),
         "qs_stream_stop": (HANDLE, U64, U64),
@@ -89,8 +89,9 @@ class Library:
         "qs_set_send_window": (HANDLE, U64),
         "qs_set_receive_window": (HANDLE, U64),
         "qs_set_max_concurrent": (HANDLE, ctypes.c_uint32, U64),
-        "qs_poll": (HANDLE, ctypes.POINTER(Event)),
+        "qs_poll_words": (HANDLE, OUT, SIZE),
         "qs_get_info_words": (HANDLE, OUT, SIZE),
+        "qs_get_stats_words": (HANDLE, OUT, SIZE),
         "qs_get_due_words": (HANDLE, OUT, SIZE),
         "qs_buffer_reserve": (IN_BUFFER, SIZE),
         "qs_receive": (HANDLE, BYTES, SIZE, OUT_SIZE, OUT_ERROR),
@@ -157,6 +158,11 @@ class Connection:
         written, code = SIZE(UNWRITTEN), U64(UNWRITTEN)
         return self.call("stream_write", id, bytes_in(data), len(data), written, code), written.value, code.value
 
+    def write_fin(self, id, data, fin):
+        """A write that may finish its stream: the count is 0 before it, as the header's qs_stream_writev has it."""
+        written, code = SIZE(0), U64(UNWRITTEN)
+        return self.call("stream_write_fin", id, bytes_in(data), len(data), int(fin), written, code), written.value, code.value
+
     def read(self, how, id, most):
         """A read by the call of this name: its return value, the bytes, their count, offset and code."""
         data, count, offset, code = room(most), SIZE(UNWRITTEN), U64(UNWRITTEN), U64(UNWRITTEN)
@@ -170,10 +176,6 @@ class Connection:
         given = slices[: count.value] if count.value <= most else []
         pieces = [ctypes.string_at(ctypes.addressof(it.memory.contents) + it.start, it.len) for it in given]
         return result, pieces, count.value, offset.value, code.value
-
-    def poll(self):
-        event = Event(*[UNWRITTEN % 2**32] * 2, UNWRITTEN, UNWRITTEN)
-        return self.call("poll", event), event
 
     # -- payloads: each returns the return value, the bytes, and the numbers of qs_payload
 

@@ -80,6 +80,9 @@ class Programs(Built):
     def test_stopped_streams_and_closed_buffers(self):
         self.assertIn("2 tests", run(self.build("stopped")))
 
+    def test_counters_of_frames_and_lost_bytes(self):
+        self.assertIn("3 tests", run(self.build("stats")))
+
     def test_payloads_with_frames_of_the_host(self):
         self.assertIn("6 tests", run(self.build("other_frames")))
 
@@ -94,6 +97,12 @@ class Programs(Built):
 
     def test_structs_of_older_and_newer_hosts(self):
         self.assertIn("6 tests", run(self.build("words")))
+
+    def test_what_hosts_ask(self):
+        self.assertIn("3 tests", run(self.build("hosts")))
+
+    def test_streams_that_are_over(self):
+        self.assertIn("8 tests", run(self.build("closed")))
 
     def test_two_ends(self):
         self.assertIn("100 seeds", run(self.build("two_ends"), "100"))
@@ -111,10 +120,13 @@ class Programs(Built):
         valgrind = [tool("valgrind"), "-q", "--error-exitcode=9", "--leak-check=full", "--errors-for-leak-kinds=all"]
         run(*valgrind, self.build("one_end"))
         run(*valgrind, self.build("stopped"))
+        run(*valgrind, self.build("stats"))
         run(*valgrind, self.build("other_frames"))
         run(*valgrind, self.build("bounds"))
         run(*valgrind, self.build("distinct"))
         run(*valgrind, self.build("words"))
+        run(*valgrind, self.build("hosts"))
+        run(*valgrind, self.build("closed"))
         run(*valgrind, self.build("buffers"))
         run(*valgrind, self.build("two_ends"), "2")
         run(*valgrind, self.build("hostile"), "3000")
@@ -123,10 +135,13 @@ class Programs(Built):
         flags = ["-fsanitize=address,undefined", "-fno-sanitize-recover=all"]
         run(self.build("one_end", *flags))
         run(self.build("stopped", *flags))
+        run(self.build("stats", *flags))
         run(self.build("other_frames", *flags))
         run(self.build("buffers", *flags))
         run(self.build("distinct", *flags))
         run(self.build("words", *flags))
+        run(self.build("hosts", *flags))
+        run(self.build("closed", *flags))
         run(self.build("two_ends", *flags), "5")
         run(self.build("hostile", *flags), "50000")
 

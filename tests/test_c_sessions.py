@@ -53,6 +53,10 @@ LEAST = {
     "poll finished": 300,
     "poll stopped": 100,
     "poll available": 100,
+    "poll closed": 100,
+    "room room": 100,
+    "user user": 100,
+    "set-user ok": 100,
 }
 
 

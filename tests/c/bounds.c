@@ -6,7 +6,7 @@ static const uint64_t END = UINT64_C(1) << 62; /* the first that is too great */
 
 static void configs(void) {
   const uint64_t count_end = (UINT64_C(1) << 60) + 1;
-  const qs_config good = {QS_CLIENT, 1, 1, 1, 1, 1, 1, 1};
+  const qs_config good = {QS_CLIENT, 1, 1, 1, 1, 1, 1, 1, 1};
   qs_conn a = QS_CONN_INIT;
   qs_config config = good;
   const uint64_t sides[] = {2, UINT64_C(1) << 32, UINT64_MAX};
@@ -28,6 +28,15 @@ static void configs(void) {
     *windows[i] = END;
     SAME(qs_conn_open(&a, &config), QS_ERR_ARGUMENT);
     *windows[i] = END - 1;
+    SAME(qs_conn_open(&a, &config), QS_OK);
+    qs_conn_free(&a);
+  }
+  const uint64_t tracks[] = {2, UINT64_C(1) << 32, UINT64_MAX};
+  for (size_t i = 0; i < 3; i++) {
+    config = good;
+    config.track_streams = tracks[i];
+    SAME(qs_conn_open(&a, &config), QS_ERR_ARGUMENT);
+    config.track_streams = i % 2;
     SAME(qs_conn_open(&a, &config), QS_OK);
     qs_conn_free(&a);
   }

@@ -59,7 +59,7 @@ typedef struct {
 } pair;
 
 static int open_end(qs_conn *conn, uint32_t side, uint64_t count) {
-  qs_config config = {side, count, 0, LIMIT, LIMIT, LIMIT, QS_NONE, 0};
+  qs_config config = {side, count, 0, LIMIT, LIMIT, LIMIT, QS_NONE, 0, 0};
   qs_peer_limits limits = {LIMIT, 0, count, LIMIT, LIMIT, LIMIT, QS_NONE};
   return qs_conn_open(conn, &config) == QS_OK &&
          qs_set_peer_limits(conn, &limits) == QS_OK;
@@ -157,7 +157,7 @@ static int read_stream(pair *p, uint64_t id) {
 
 /* The server takes its events, and reads what came. */
 static int read_all(pair *p) {
-  qs_event event = {0, 0, 0, 0};
+  qs_event event = {0, 0, 0, 0, 0};
   uint64_t id = 0;
   int32_t answer;
   p->noted = 0;
@@ -193,7 +193,7 @@ static int settle(pair *p) {
   for (size_t at = 0; at < p->flying; at++)
     if ((p->lost[at] ? qs_lost : qs_acked)(&p->client, p->tokens[at]) != QS_OK)
       return 0;
-  qs_event event = {0, 0, 0, 0};
+  qs_event event = {0, 0, 0, 0, 0};
   int32_t answer;
   while ((answer = qs_poll(&p->client, &event)) == QS_OK) {
     p->events++;

@@ -38,13 +38,21 @@ static inline void same_bytes(const uint8_t *found, size_t len,
   same_bytes(found, len, wanted, sizeof(wanted) - 1, __FILE__, __LINE__)
 
 /* An end that permits so many streams of each direction and so many bytes in
- * all and on each stream, and is permitted as much. */
-static inline int32_t open_end(qs_conn *conn, uint32_t side, uint64_t count,
-                               uint64_t window, uint64_t each) {
-  qs_config config = {side, count, count, window, window, each, 4096, 4096};
+ * all and on each stream, and is permitted as much. It tracks its streams or
+ * does not. */
+static inline int32_t open_end_that(qs_conn *conn, uint32_t side,
+                                    uint64_t count, uint64_t window,
+                                    uint64_t each, uint64_t tracks) {
+  qs_config config = {side, count, count, window, window,
+                      each, 4096,  4096,  tracks};
   qs_peer_limits limits = {window, count, count, each, each, each, 1200};
   int32_t answer = qs_conn_open(conn, &config);
   return answer == QS_OK ? qs_set_peer_limits(conn, &limits) : answer;
+}
+
+static inline int32_t open_end(qs_conn *conn, uint32_t side, uint64_t count,
+                               uint64_t window, uint64_t each) {
+  return open_end_that(conn, side, count, window, each, 0);
 }
 
 /* A payload, or one of length 0 where nothing is due. */

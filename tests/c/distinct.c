@@ -17,6 +17,7 @@ static qs_conn open_server(void) {
   config.stream_window = 400;
   config.datagram_receive = 1000;
   config.datagram_send = 500;
+  config.track_streams = 1;
   limits.initial_max_data = 600;
   limits.initial_max_streams_bidi = 2;
   limits.initial_max_streams_uni = 4;

@@ -51,7 +51,7 @@ static void check_answer(int32_t answer, const qs_error *error, size_t next) {
 
 /* The application reads, and answers what is due. */
 static void act(qs_conn *conn) {
-  qs_event event = {0, 0, 0, 0};
+  qs_event event = {0, 0, 0, 0, 0};
   uint64_t id = 0, offset = 0, code = 0;
   size_t count = 0;
   uint8_t data[64] = {0};

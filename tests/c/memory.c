@@ -87,7 +87,7 @@ static void take_buffer(qs_conn *conn, uint64_t *offset, size_t len) {
 static uint8_t out[1 << 16];
 
 static void take_events(qs_conn *conn) {
-  qs_event event = {0, 0, 0, 0};
+  qs_event event = {0, 0, 0, 0, 0};
   while (qs_poll(conn, &event) == QS_OK)
     continue;
 }

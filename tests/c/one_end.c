@@ -8,7 +8,7 @@ static void a_stream_is_written_and_read(void) {
   size_t written = 0, count = 99;
   packet p;
   uint8_t text[16] = {0};
-  qs_event event = {0, 0, 0, 0};
+  qs_event event = {0, 0, 0, 0, 0};
   SAME(open_end(&a, QS_CLIENT, 4, 1000, 1000), QS_OK);
   SAME(open_end(&b, QS_SERVER, 4, 1000, 1000), QS_OK);
   SAME(qs_stream_open(&a, QS_UNI, &id), QS_OK);
@@ -49,6 +49,9 @@ static void a_stream_is_written_and_read(void) {
   SAME(event.kind, QS_EVENT_FINISHED);
   SAME(event.id, 2);
   SAME(qs_poll(&a, &event), QS_DONE);
+  SAME(qs_poll(&b, &event), QS_OK);
+  SAME(event.kind, QS_EVENT_READABLE); /* of what came twice */
+  SAME(qs_poll(&b, &event), QS_DONE);
   qs_conn_free(&a);
   qs_conn_free(&b);
 }
@@ -193,7 +196,7 @@ static void limits_block_and_are_raised(void) {
   uint64_t id;
   size_t written = 0;
   qs_error error = {0, 0, {0}};
-  qs_event event = {0, 0, 0, 0};
+  qs_event event = {0, 0, 0, 0, 0};
   packet p;
   SAME(open_end(&a, QS_CLIENT, 1, 10, 10), QS_OK);
   SAME(qs_stream_open(&a, QS_BIDI, &id), QS_OK);
@@ -263,7 +266,7 @@ static void datagrams_stand_between(void) {
   uint64_t id;
   size_t written = 0, count = 0, size = 0;
   uint8_t data[16] = {0};
-  qs_event event = {0, 0, 0, 0};
+  qs_event event = {0, 0, 0, 0, 0};
   packet p;
   SAME(open_end(&a, QS_CLIENT, 4, 1000, 1000), QS_OK);
   SAME(open_end(&b, QS_SERVER, 4, 1000, 1000), QS_OK);
@@ -339,7 +342,7 @@ static void a_frame_for_another_direction_is_refused(void) {
   qs_conn a = QS_CONN_INIT;
   uint64_t id = 0, code = 0;
   qs_error error = {0, 0, {0}};
-  qs_event event = {0, 0, 0, 0};
+  qs_event event = {0, 0, 0, 0, 0};
   SAME(open_end(&a, QS_CLIENT, 4, 1000, 1000), QS_OK);
   SAME(qs_stream_open(&a, QS_UNI, &id), QS_OK);
   SAME(id, 2);

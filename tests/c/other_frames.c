@@ -109,7 +109,7 @@ static void a_malformed_run_changes_nothing(void) {
   for (size_t i = 0; i < sizeof cases / sizeof cases[0]; i++) {
     qs_conn b = QS_CONN_INIT;
     qs_error error = {0, 0, {0}};
-    const qs_config config = {QS_SERVER, 4, 4, 100, 100, 100, 0, 0};
+    const qs_config config = {QS_SERVER, 4, 4, 100, 100, 100, 0, 0, 0};
     const qs_peer_limits limits = {0, 4, 4, 0, 0, 0, QS_NONE};
     size_t next = cases[i].payload[0] == 2; /* behind an ACK */
     SAME(qs_conn_open(&b, &config), QS_OK);

@@ -95,7 +95,7 @@ static void read_stream(side *s, uint64_t id) {
 }
 
 static void act(side *s, const uint32_t *dirs) {
-  qs_event event = {0, 0, 0, 0};
+  qs_event event = {0, 0, 0, 0, 0};
   uint64_t id = 0;
   while (qs_poll(&s->conn, &event) == QS_OK) {
     if (event.kind == QS_EVENT_READABLE)

@@ -22,7 +22,7 @@ static void filled(const uint64_t *wanted, size_t known, size_t count) {
 
 static void untouched(void) { filled(NULL, 0, 0); }
 
-static const uint64_t CONFIG[] = {QS_SERVER, 3, 5, 700, 900, 400, 1000, 500};
+static const uint64_t CONFIG[] = {QS_SERVER, 3, 5, 700, 900, 400, 1000, 500, 1};
 static const uint64_t LIMITS[] = {600, 2, 4, 50, 60, 70, 80};
 
 static void fields_stand_at_their_words(void) {
@@ -34,7 +34,8 @@ static void fields_stand_at_their_words(void) {
   SAME(WORD(qs_config, stream_window), 5);
   SAME(WORD(qs_config, datagram_receive), 6);
   SAME(WORD(qs_config, datagram_send), 7);
-  SAME(COUNT(qs_config), 8);
+  SAME(WORD(qs_config, track_streams), 8);
+  SAME(COUNT(qs_config), 9);
   SAME(WORD(qs_peer_limits, initial_max_data), 0);
   SAME(WORD(qs_peer_limits, initial_max_streams_bidi), 1);
   SAME(WORD(qs_peer_limits, initial_max_streams_uni), 2);
@@ -51,6 +52,12 @@ static void fields_stand_at_their_words(void) {
   SAME(WORD(qs_due, datagrams), 1);
   SAME(WORD(qs_due, streams), 2);
   SAME(COUNT(qs_due), 3);
+  SAME(WORD(qs_event, kind), 0);
+  SAME(WORD(qs_event, dir), 1);
+  SAME(WORD(qs_event, id), 2);
+  SAME(WORD(qs_event, app_code), 3);
+  SAME(WORD(qs_event, user), 4);
+  SAME(COUNT(qs_event), 5);
   SAME(COUNT(qs_info), 15);
 }
 
@@ -75,6 +82,7 @@ static void is_of_config(qs_conn *conn, size_t count) {
   SAME(info_word(conn, WORD(qs_info, write_limit)), count > 3 ? 600 : 0);
   SAME(qs_stream_open(conn, QS_BIDI, &id), QS_OK);
   SAME(id, count > 0 ? 1 : 0); /* a server's, if the side was passed */
+  SAME(qs_stream_set_user(conn, id, 1), count > 8 ? QS_OK : QS_ERR_NO_STREAM);
   SAME(qs_on_stream(conn, 0, 0, zeros, 400, 0, 400, &error),
        count > 5 ? QS_OK : QS_ERR_PROTOCOL);
   SAME(qs_on_datagram(conn, zeros, 968, &error),

@@ -6,6 +6,8 @@
  * - what is read is what the peer sent, each byte once, and not beyond its
  * limits;
  * - FIN and resets are reported only if the peer sent them;
+ * - an event of a stream has the host's number of it, and the event that it is
+ *   over is its last one; there is neither if streams are not tracked;
  * - what is sent is what was written, within the peer's limits;
  * - the library grants no more credit than its windows and what was received;
  * - no memory is left when the session is freed.
@@ -36,8 +38,8 @@ typedef struct {
   uint64_t written, sent, send_limit;
   /* of the peer's side, and of this one */
   int has_fin, has_reset, is_unordered, is_over, is_stopped;
-  int is_finished, is_reset;
-  uint64_t final_size, reset_code;
+  int is_finished, is_reset, has_last_event;
+  uint64_t final_size, reset_code, user;
 } account;
 
 static struct {
@@ -46,7 +48,7 @@ static struct {
   uint64_t tokens[FLIGHT];
   size_t flying;
   uint64_t received, sent, send_limit, stream_limit[2], opened[2];
-  uint32_t side;
+  uint32_t side, tracks;
   int is_closed, has_stopped;
 } e;
 
@@ -70,8 +72,9 @@ static uint8_t byte_of(uint64_t id, uint64_t offset) {
 static int is_own(uint64_t id) { return (uint32_t)(id & 1) == e.side; }
 
 static void start(void) {
-  const qs_config config = {e.side, STREAMS_EACH,  STREAMS_EACH, 2000,
-                            WINDOW, STREAM_WINDOW, 300,          300};
+  const qs_config config = {e.side, STREAMS_EACH, STREAMS_EACH,
+                            2000,   WINDOW,       STREAM_WINDOW,
+                            300,    300,          e.tracks};
   const qs_peer_limits limits = {
       PEER_DATA,        STREAMS_EACH,     STREAMS_EACH, PEER_STREAM_DATA,
       PEER_STREAM_DATA, PEER_STREAM_DATA, 100};
@@ -239,14 +242,26 @@ static void change_stream(uint64_t id, uint64_t kind) {
     (void)qs_stream_set_priority(&e.conn, id, (int32_t)take(1) - 128);
 }
 
+static void set_user(uint64_t id) {
+  const uint64_t user = 3 * id + 1;
+  const int32_t result = seen(13, qs_stream_set_user(&e.conn, id, user));
+  if (e.tracks && result == QS_OK)
+    e.streams[id].user = user;
+  else
+    must(result == (e.tracks ? QS_ERR_NOMEM : QS_ERR_NO_STREAM));
+}
+
 static void open_or_accept(uint32_t dir) {
   uint64_t id;
   if (seen(8, qs_stream_open(&e.conn, dir, &id)) == QS_OK) {
     must(is_own(id) && qs_id_index(id) == e.opened[dir]);
     must(++e.opened[dir] <= e.stream_limit[dir] && !e.is_closed);
+    set_user(id);
   }
-  if (seen(9, qs_stream_accept(&e.conn, dir, &id)) == QS_OK)
+  if (seen(9, qs_stream_accept(&e.conn, dir, &id)) == QS_OK) {
     must(!is_own(id) && id < IDS);
+    set_user(id);
+  }
 }
 
 /* ---- payloads that are sent
@@ -352,6 +367,25 @@ static void report(void) {
   }
 }
 
+static int is_of_stream(uint64_t kind) {
+  return (kind >= QS_EVENT_READABLE && kind <= QS_EVENT_STOPPED) ||
+         kind == QS_EVENT_CLOSED;
+}
+
+static void see(const qs_event *event) {
+  const int is_over = event->kind == QS_EVENT_CLOSED;
+  seen(12, (int32_t)event->kind);
+  must(e.tracks || !is_over);
+  if (!is_of_stream(event->kind)) {
+    must(event->id == 0 && event->user == 0);
+    return;
+  }
+  must(event->id < IDS);
+  account *s = &e.streams[event->id];
+  must(event->user == s->user && !s->has_last_event);
+  s->has_last_event = is_over;
+}
+
 static void ask(void) {
   qs_info info;
   qs_event event;
@@ -363,7 +397,7 @@ static void ask(void) {
   must(info.data_received <= info.local_max_data);
   must(info.local_max_data <= WINDOW + info.data_received);
   if (qs_poll(&e.conn, &event) == QS_OK)
-    seen(12, (int32_t)event.kind);
+    see(&event);
   (void)qs_datagram_recv(&e.conn, data, sizeof data, &count);
 }
 
@@ -404,7 +438,9 @@ int LLVMFuzzerTestOneInput(const uint8_t *data, size_t size) {
   memset(&e, 0, sizeof e);
   input.at = data;
   input.left = size;
-  e.side = (uint32_t)take(1) % 2;
+  const uint32_t first = (uint32_t)take(1);
+  e.side = first % 2;
+  e.tracks = first / 2 % 2;
   start();
   while (input.left > 0)
     step();

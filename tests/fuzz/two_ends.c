@@ -26,12 +26,14 @@ typedef struct {
   qs_payload heads[HELD];
   size_t held;
   qs_buffer buffer;
+  uint64_t tracks;
 } end;
 
 static void open_end(end *e, uint32_t side) {
-  const uint64_t count = take(1) % 16, window = take(2);
-  const qs_config config = {side,   count,      count,   take(2),
-                            window, window / 2, take(2), take(2)};
+  const uint64_t first = take(1), count = first % 16, window = take(2);
+  const qs_config config = {side,       count,   count,   take(2),       window,
+                            window / 2, take(2), take(2), first / 16 % 2};
+  e->tracks = config.track_streams;
   const qs_peer_limits limits = {window,     count,      count,  window / 2,
                                  window / 2, window / 2, take(1)};
   must(qs_conn_open(&e->conn, &config) == QS_OK);
@@ -107,7 +109,7 @@ static void call(end *e, end *peer) {
   uint64_t id = take(1) % 64, out = 0, code = 0;
   size_t count = 0, next = 0;
   uint8_t bytes[256] = {0};
-  qs_event event = {0, 0, 0, 0};
+  qs_event event = {0, 0, 0, 0, 0};
   qs_info info;
   const uint64_t kind = take(1) % 23;
   switch (kind) {
@@ -134,6 +136,7 @@ static void call(end *e, end *peer) {
     break;
   case 6:
     (void)qs_stream_set_priority(&e->conn, id, (int32_t)take(1) - 128);
+    (void)qs_stream_set_user(&e->conn, id, id);
     break;
   case 7:
   case 8: {
@@ -157,7 +160,10 @@ static void call(end *e, end *peer) {
     (void)qs_set_max_concurrent(&e->conn, (uint32_t)id % 2, take(1));
     break;
   case 12:
-    (void)qs_poll(&e->conn, &event);
+    if (qs_poll(&e->conn, &event) == QS_OK) {
+      must(e->tracks || event.kind != QS_EVENT_CLOSED);
+      must(event.user == 0 || (e->tracks && event.user == event.id));
+    }
     break;
   case 13:
     (void)qs_datagram_send(&e->conn, bytes, take(1), (uint32_t)id % 2);

@@ -31,6 +31,12 @@ pub struct Config {
     pub datagram_receive: Option<usize>,
     /// At most this many bytes of datagrams may wait to be sent, counted in the same way.
     pub datagram_send: usize,
+    /// Whether the session keeps a word of the host for each stream ([`StreamsState::set_user`]) and raises
+    /// [`Event::Closed`]. Each stream then takes some memory and time more until that event is polled.
+    ///
+    /// [`StreamsState::set_user`]: crate::StreamsState::set_user
+    /// [`Event::Closed`]: crate::Event::Closed
+    pub track_streams: bool,
 }
 
 impl Config {
@@ -63,12 +69,14 @@ impl Config {
             stream_window: self.stream_window.into_inner(),
             datagram_receive: number(self.datagram_receive),
             datagram_send: self.datagram_send as u64,
+            track_streams: u64::from(self.track_streams),
         }
     }
 }
 
 impl Default for Config {
-    /// A hundred streams of each direction; a megabyte for each stream, ten for all together, and one for datagrams.
+    /// A hundred streams of each direction; a megabyte for each stream, ten for all together, and one for datagrams. Streams
+    /// are not tracked.
     fn default() -> Self {
         Self {
             max_remote_uni: VarInt::from_u32(100),
@@ -78,6 +86,7 @@ impl Default for Config {
             stream_window: VarInt::from_u32(1_000_000),
             datagram_receive: Some(1_000_000),
             datagram_send: 1_000_000,
+            track_streams: false,
         }
     }
 }

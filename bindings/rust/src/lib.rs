@@ -25,7 +25,7 @@
 //! client.acked(payload.token)?;
 //!
 //! assert_eq!(server.poll(), Some(Event::Opened { dir: Dir::Uni }));
-//! assert_eq!(server.accept(Dir::Uni), Some(id));
+//! assert_eq!(server.accept(Dir::Uni), Ok(Some(id)));
 //! let mut text = [0; 100];
 //! let count = server.recv_stream(id).read(&mut text)?.expect("the stream goes on");
 //! assert_eq!(&text[..count], b"hello");
@@ -69,5 +69,5 @@ pub use recv::{Next, ReadLent, ReadMany, RecvStream};
 pub use send::{SendStream, Written};
 pub use state::{version, StreamsState};
 pub use transport_error::{TransportError, TransportErrorCode};
-pub use values::{Due, Emit, Event, Info, Lent, Payload, Received, Token};
+pub use values::{Due, Emit, Event, FrameStats, Info, Lent, Payload, Received, Stats, Token};
 pub use varint::{VarInt, VarIntBoundsExceeded};

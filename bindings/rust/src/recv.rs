@@ -160,7 +160,7 @@ impl<'a> RecvStream<'a> {
     /// # let mut packet = [0; 100];
     /// # let payload = client.emit(&mut packet, Emit::ALL)?.unwrap();
     /// # let _ = server.receive(&packet[..payload.len])?;
-    /// # server.accept(Dir::Uni);
+    /// # server.accept(Dir::Uni)?;
     /// let mut text = Vec::with_capacity(4096);
     /// let read = server.recv_stream(id).read_into_uninit(text.spare_capacity_mut(), true)?;
     /// let (count, _) = read.expect("the stream goes on");
@@ -218,7 +218,7 @@ impl<'a> RecvStream<'a> {
     /// # let mut packet = [0; 100];
     /// # let payload = client.emit(&mut packet, Emit::ALL)?.unwrap();
     /// # let _ = server.receive(&packet[..payload.len])?;
-    /// # server.accept(Dir::Uni);
+    /// # server.accept(Dir::Uni)?;
     /// let mut buffer = [0; 4096];
     /// let read = server.recv_stream(id).read_many(&mut buffer)?;
     /// assert_eq!(&buffer[..read.count], b"hello");
@@ -282,7 +282,7 @@ impl<'a> RecvStream<'a> {
     /// # let mut packet = [0; 100];
     /// # let payload = client.emit(&mut packet, Emit::ALL)?.unwrap();
     /// # let _ = server.receive(&packet[..payload.len])?;
-    /// # server.accept(Dir::Uni);
+    /// # server.accept(Dir::Uni)?;
     /// let mut stream = server.recv_stream(id);
     /// let read = stream.read_lent()?;
     /// assert_eq!(read.pieces().collect::<Vec<_>>(), [b"hello"]);
@@ -359,7 +359,7 @@ impl<'a> RecvStream<'a> {
     /// # let mut packet = [0; 100];
     /// # let payload = client.emit(&mut packet, Emit::ALL)?.unwrap();
     /// # let _ = server.receive(&packet[..payload.len])?;
-    /// # server.accept(Dir::Uni);
+    /// # server.accept(Dir::Uni)?;
     /// let mut stream = server.recv_stream(id);
     /// let mut chunks = stream.chunks(false);
     /// let chunk = chunks.next(3)?.expect("the stream goes on");

@@ -29,7 +29,7 @@ fn stream_error(result: i32) -> StreamError {
     }
 }
 
-/// How much [`SendStream::write_chunks`] wrote.
+/// How much [`SendStream::write_chunks`] and the calls that finish a stream wrote.
 #[derive(Clone, Copy, Debug, Default, PartialEq, Eq)]
 #[non_exhaustive]
 pub struct Written {
@@ -37,6 +37,8 @@ pub struct Written {
     pub bytes: usize,
     /// How many chunks to their end.
     pub chunks: usize,
+    /// Whether the stream was finished behind them.
+    pub finished: bool,
 }
 
 impl Written {
@@ -46,6 +48,11 @@ impl Written {
         self.bytes += bytes;
         self.chunks += usize::from(bytes == of);
         bytes == of
+    }
+
+    // The end alone.
+    fn without_chunk(self) -> Self {
+        Self { chunks: 0, ..self }
     }
 }
 
@@ -139,6 +146,93 @@ impl SendStream<'_> {
         Ok(written)
     }
 
+    /// Writes data as [`SendStream::write`] does, and finishes the stream in the same step if all of it is written: the last
+    /// STREAM frame can have the FIN bit.
+    ///
+    /// If all is written and [`Written::finished`] is false, memory ran out between the two: call [`SendStream::finish`].
+    /// Without data it is [`SendStream::finish`], which needs no credit.
+    ///
+    /// ```
+    /// # use quic_streams::{Config, Dir, Emit, Limits, Side, StreamsState};
+    /// # fn main() -> Result<(), Box<dyn std::error::Error>> {
+    /// # let config = Config::default();
+    /// # let mut client = StreamsState::new(Side::Client, &config)?;
+    /// # client.set_params(&Limits::of(&config))?;
+    /// # client.set_send_window(5);
+    /// # let id = client.open(Dir::Uni)?.unwrap();
+    /// let written = client.send_stream(id).write_fin(b"hello world")?; // the window has 5 bytes
+    /// assert_eq!((written.bytes, written.finished), (5, false));
+    /// # client.set_send_window(100);
+    /// let written = client.send_stream(id).write_fin(b" world")?; // when the stream is writable again
+    /// assert_eq!((written.bytes, written.finished), (6, true));
+    /// # Ok(())
+    /// # }
+    /// ```
+    ///
+    /// # Errors
+    ///
+    /// [`WriteError`], and nothing is written.
+    pub fn write_fin(&mut self, data: &[u8]) -> Result<Written, WriteError> {
+        let (mut bytes, mut code) = (0, 0);
+        let (conn, id) = (self.state.handle(), self.id.into());
+        let (at, len) = (data.as_ptr(), data.len());
+        // SAFETY: the handle is this session's, `at` points to `len` bytes, and `bytes` and `code` are locals of their own.
+        let result =
+            unsafe { sys::qs_stream_write_fin(conn, id, at, len, 1, &mut bytes, &mut code) };
+        let (is_whole, is_done) = (bytes == len, result == sys::QS_OK);
+        match result {
+            sys::QS_OK => {}
+            sys::QS_ERR_NOMEM if is_whole && len > 0 => {}
+            sys::QS_ERR_BLOCKED => return Err(WriteError::Blocked),
+            sys::QS_ERR_STOPPED => return Err(WriteError::Stopped(VarInt::returned(code))),
+            sys::QS_ERR_NO_STREAM => return Err(WriteError::ClosedStream),
+            sys::QS_ERR_NOMEM => return Err(WriteError::OutOfMemory),
+            result => unexpected(result),
+        }
+        Ok(Written {
+            bytes,
+            chunks: usize::from(is_whole),
+            finished: is_whole && is_done,
+        })
+    }
+
+    /// Writes chunks as [`SendStream::write_chunks`] does, and finishes the stream with the last one if all of them are
+    /// written. Without a chunk it is [`SendStream::finish`].
+    ///
+    /// # Errors
+    ///
+    /// [`WriteError`] if nothing was written and the stream is not finished. An error after the first byte is left to the
+    /// next call.
+    pub fn write_chunks_fin(&mut self, chunks: &mut [&[u8]]) -> Result<Written, WriteError> {
+        let (last, before) = match chunks.split_last_mut() {
+            Some(parts) => parts,
+            None => return self.write_fin(b"").map(Written::without_chunk),
+        };
+        let mut written = self.write_chunks(before)?;
+        if written.chunks < before.len() {
+            return Ok(written);
+        }
+        let end = match self.write_fin(last) {
+            Ok(end) => end,
+            Err(error) if written == Written::default() => return Err(error),
+            Err(_) => return Ok(written),
+        };
+        *last = &last[end.bytes..];
+        written.bytes += end.bytes;
+        written.chunks += end.chunks;
+        written.finished = end.finished;
+        Ok(written)
+    }
+
+    /// How many bytes one [`SendStream::write`] would take now, as [`StreamsState::send_room`].
+    ///
+    /// # Errors
+    ///
+    /// [`StreamError::ClosedStream`].
+    pub fn send_room(&self) -> Result<u64, StreamError> {
+        self.state.send_room(self.id)
+    }
+
     /// Finishes the stream: no data follows, and FIN is sent.
     ///
     /// # Errors
@@ -199,6 +293,35 @@ impl SendStream<'_> {
 
 /// Questions about the send side of a stream, which need no `&mut`.
 impl StreamsState {
+    /// How many bytes one [`SendStream::write`] would take now: the least of what the peer's limit for the stream, its limit
+    /// for all streams and the send window allow. 0 if it would be [`WriteError::Blocked`] or [`WriteError::Stopped`]. Nothing
+    /// is noted as blocked, so no event follows: write to get [`Event::Writable`](crate::Event::Writable).
+    ///
+    /// ```
+    /// # use quic_streams::{Config, Dir, Limits, Side, StreamsState};
+    /// # fn main() -> Result<(), Box<dyn std::error::Error>> {
+    /// # let config = Config::default();
+    /// # let mut client = StreamsState::new(Side::Client, &config)?;
+    /// # client.set_params(&Limits::of(&config))?;
+    /// client.set_send_window(7);
+    /// let id = client.open(Dir::Uni)?.expect("a stream is allowed");
+    /// assert_eq!(client.send_room(id)?, 7);
+    /// assert_eq!(client.send_stream(id).write(b"hello world")?, 7);
+    /// assert_eq!(client.send_room(id)?, 0);
+    /// # Ok(())
+    /// # }
+    /// ```
+    ///
+    /// # Errors
+    ///
+    /// [`StreamError::ClosedStream`], where a write would be [`WriteError::ClosedStream`].
+    pub fn send_room(&self, id: StreamId) -> Result<u64, StreamError> {
+        let mut bytes = 0;
+        // SAFETY: the handle is this session's, and `bytes` is a local of its own.
+        done(unsafe { sys::qs_stream_send_room(self.handle(), id.into(), &mut bytes) })?;
+        Ok(bytes)
+    }
+
     /// The code of the peer's STOP_SENDING for a stream, if it sent one.
     ///
     /// # Errors

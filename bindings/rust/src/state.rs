@@ -1,10 +1,10 @@
 use crate::config::{Config, Limits};
-use crate::errors::{unexpected, ConfigError, OutOfMemory, ReceiveError, SettleError};
+use crate::errors::{unexpected, ConfigError, OutOfMemory, ReceiveError, SettleError, StreamError};
 use crate::id::{Dir, Side, StreamId};
 use crate::recv::RecvStream;
 use crate::send::SendStream;
 use crate::transport_error::TransportError;
-use crate::values::{Due, Emit, Event, Info, Lent, Payload, Received, Token};
+use crate::values::{Due, Emit, Event, Info, Lent, Payload, Received, Stats, Token};
 use crate::varint::VarInt;
 use quic_streams_sys as sys;
 use std::cell::UnsafeCell;
@@ -26,7 +26,7 @@ use std::slice::from_raw_parts;
 /// is_send::<quic_streams::StreamsState>();
 /// ```
 pub struct StreamsState {
-    // The library takes a mutable handle also for questions, which are asked through `&self`.
+    // The library writes to the handle also while it answers a question, which is asked through `&self`.
     conn: UnsafeCell<sys::qs_conn>,
 }
 
@@ -200,12 +200,67 @@ impl StreamsState {
     }
 
     /// Accepts the next stream of a direction that the peer opened, in the order of their ids. `None`: none waits.
-    pub fn accept(&mut self, dir: Dir) -> Option<StreamId> {
+    ///
+    /// # Errors
+    ///
+    /// [`OutOfMemory`], and the stream waits still. Only if streams are tracked ([`Config::track_streams`]).
+    pub fn accept(&mut self, dir: Dir) -> Result<Option<StreamId>, OutOfMemory> {
         let mut id = 0;
         // SAFETY: the handle is this session's, and `id` is a local of its own.
         match unsafe { sys::qs_stream_accept(self.handle(), dir.number(), &mut id) } {
-            sys::QS_OK => Some(StreamId::returned(id)),
-            sys::QS_DONE => None,
+            sys::QS_OK => Ok(Some(StreamId::returned(id))),
+            sys::QS_DONE => Ok(None),
+            sys::QS_ERR_NOMEM => Err(OutOfMemory),
+            result => unexpected(result),
+        }
+    }
+
+    /// Sets a word of the host's own for a stream that was opened or accepted, for example the index of what the host keeps of
+    /// it. [`Event::Closed`] has the word, and [`StreamsState::user`] returns it until then. The session keeps such words only
+    /// if [`Config::track_streams`] is set.
+    ///
+    /// ```
+    /// # use quic_streams::{Config, Dir, Emit, Event, Limits, Side, StreamsState};
+    /// # fn main() -> Result<(), Box<dyn std::error::Error>> {
+    /// let mut config = Config::default();
+    /// config.track_streams = true;
+    /// let mut client = StreamsState::new(Side::Client, &config)?;
+    /// # client.set_params(&Limits::of(&config))?;
+    /// let id = client.open(Dir::Uni)?.expect("a stream is allowed");
+    /// client.set_user(id, 7)?; // the index of what this host keeps
+    /// client.send_stream(id).finish()?;
+    /// # let sent = client.emit(&mut [0; 100], Emit::ALL)?.unwrap();
+    /// # client.acked(sent.token)?;
+    /// // once the peer acknowledged all of it
+    /// assert_eq!(client.poll(), Some(Event::Finished { id }));
+    /// assert_eq!(client.poll(), Some(Event::Closed { id, user: 7 }));
+    /// # Ok(())
+    /// # }
+    /// ```
+    ///
+    /// # Errors
+    ///
+    /// [`StreamError::ClosedStream`] if the stream was neither opened nor accepted, or raised [`Event::Closed`], or if streams
+    /// are not tracked. [`StreamError::OutOfMemory`], and the word is as it was.
+    pub fn set_user(&mut self, id: StreamId, user: u64) -> Result<(), StreamError> {
+        // SAFETY: the handle is this session's.
+        match unsafe { sys::qs_stream_set_user(self.handle(), id.into(), user) } {
+            sys::QS_OK => Ok(()),
+            sys::QS_ERR_NO_STREAM => Err(StreamError::ClosedStream),
+            sys::QS_ERR_NOMEM => Err(StreamError::OutOfMemory),
+            result => unexpected(result),
+        }
+    }
+
+    /// The word of a stream, 0 at first. `None`: the stream was neither opened nor accepted, or raised [`Event::Closed`], or
+    /// streams are not tracked.
+    #[must_use]
+    pub fn user(&self, id: StreamId) -> Option<u64> {
+        let mut user = 0;
+        // SAFETY: the handle is this session's, and `user` is a local of its own.
+        match unsafe { sys::qs_stream_user(self.handle(), id.into(), &mut user) } {
+            sys::QS_OK => Some(user),
+            sys::QS_ERR_NO_STREAM => None,
             result => unexpected(result),
         }
     }
@@ -281,6 +336,15 @@ impl StreamsState {
         // SAFETY: the handle is this session's, and `info` is a local of its own.
         must_be_done(unsafe { sys::qs_get_info(self.handle(), &mut info) });
         Info::of(&info)
+    }
+
+    /// How many frames of each type this endpoint sent and received, and how many bytes of stream data were declared lost.
+    #[must_use]
+    pub fn stats(&self) -> Stats {
+        let mut stats = sys::qs_stats::ZERO;
+        // SAFETY: the handle is this session's, and `stats` is a local of its own.
+        must_be_done(unsafe { sys::qs_get_stats(self.handle(), &mut stats) });
+        Stats::of(&stats)
     }
 }
 

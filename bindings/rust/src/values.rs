@@ -40,6 +40,17 @@ pub enum Event {
         /// The stream.
         id: StreamId,
     },
+    /// A stream that was opened or accepted is over: neither side of it is left. This is its last event, and the stream has no
+    /// word any more ([`StreamsState::set_user`]). Raised only if [`Config::track_streams`] is set.
+    ///
+    /// [`StreamsState::set_user`]: crate::StreamsState::set_user
+    /// [`Config::track_streams`]: crate::Config::track_streams
+    Closed {
+        /// The stream.
+        id: StreamId,
+        /// The word that was set for it last, 0 if none was.
+        user: u64,
+    },
     /// A datagram can be read, and none could before.
     DatagramReceived,
     /// A datagram that was blocked may be queued now.
@@ -48,8 +59,10 @@ pub enum Event {
 
 impl Event {
     pub(crate) fn of(event: &sys::qs_event) -> Self {
-        let (dir, id) = (Dir::of(event.dir), StreamId::returned(event.id));
-        match event.kind {
+        let [kind, dir] =
+            [event.kind, event.dir].map(|word| u32::try_from(word).unwrap_or(u32::MAX));
+        let (dir, id) = (Dir::of(dir), StreamId::returned(event.id));
+        match kind {
             sys::QS_EVENT_OPENED => Self::Opened { dir },
             sys::QS_EVENT_READABLE => Self::Readable { id },
             sys::QS_EVENT_WRITABLE => Self::Writable { id },
@@ -59,6 +72,10 @@ impl Event {
                 error_code: VarInt::returned(event.app_code),
             },
             sys::QS_EVENT_AVAILABLE => Self::Available { dir },
+            sys::QS_EVENT_CLOSED => Self::Closed {
+                id,
+                user: event.user,
+            },
             sys::QS_EVENT_DATAGRAM => Self::DatagramReceived,
             sys::QS_EVENT_DATAGRAM_ROOM => Self::DatagramsUnblocked,
             kind => unexpected(kind),
@@ -290,6 +307,76 @@ impl Info {
             payloads: info.payloads,
             can_send_stream_data: info.can_send_stream_data != 0,
             has_pending: info.has_pending != 0,
+        }
+    }
+}
+
+/// How many frames there were of each type. Each number stops at 2^64 - 1.
+#[derive(Clone, Copy, Debug, Default, PartialEq, Eq)]
+#[non_exhaustive]
+pub struct FrameStats {
+    /// STREAM frames.
+    pub stream: u64,
+    /// RESET_STREAM frames.
+    pub reset_stream: u64,
+    /// STOP_SENDING frames.
+    pub stop_sending: u64,
+    /// MAX_DATA frames.
+    pub max_data: u64,
+    /// MAX_STREAM_DATA frames.
+    pub max_stream_data: u64,
+    /// MAX_STREAMS of bidirectional streams frames.
+    pub max_streams_bidi: u64,
+    /// MAX_STREAMS of unidirectional streams frames.
+    pub max_streams_uni: u64,
+    /// DATA_BLOCKED frames.
+    pub data_blocked: u64,
+    /// STREAM_DATA_BLOCKED frames.
+    pub stream_data_blocked: u64,
+    /// DATAGRAM frames.
+    pub datagram: u64,
+}
+
+/// How many frames an endpoint sent and received, from its start, and how many bytes were declared lost.
+#[derive(Clone, Copy, Debug, Default, PartialEq, Eq)]
+#[non_exhaustive]
+pub struct Stats {
+    /// The frames that were written into payloads. One that is sent again after a loss counts again.
+    pub sent: FrameStats,
+    /// The frames of the peer, also those that were rejected. One that is processed again after memory ran out counts again.
+    pub received: FrameStats,
+    /// The stream data of the payloads that were reported lost, in bytes.
+    pub lost_bytes: u64,
+}
+
+impl Stats {
+    pub(crate) fn of(stats: &sys::qs_stats) -> Self {
+        Self {
+            sent: FrameStats {
+                stream: stats.sent_stream,
+                reset_stream: stats.sent_reset_stream,
+                stop_sending: stats.sent_stop_sending,
+                max_data: stats.sent_max_data,
+                max_stream_data: stats.sent_max_stream_data,
+                max_streams_bidi: stats.sent_max_streams_bidi,
+                max_streams_uni: stats.sent_max_streams_uni,
+                data_blocked: stats.sent_data_blocked,
+                stream_data_blocked: stats.sent_stream_data_blocked,
+                datagram: stats.sent_datagram,
+            },
+            received: FrameStats {
+                stream: stats.received_stream,
+                reset_stream: stats.received_reset_stream,
+                stop_sending: stats.received_stop_sending,
+                max_data: stats.received_max_data,
+                max_stream_data: stats.received_max_stream_data,
+                max_streams_bidi: stats.received_max_streams_bidi,
+                max_streams_uni: stats.received_max_streams_uni,
+                data_blocked: stats.received_data_blocked,
+                stream_data_blocked: stats.received_stream_data_blocked,
+                datagram: stats.received_datagram,
+            },
+            lost_bytes: stats.lost_bytes,
         }
     }
 }

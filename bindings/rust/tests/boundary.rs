@@ -46,11 +46,12 @@ fn an_endpoint_is_opened_with_its_configuration_and_freed_once() {
     config.stream_window = code(5);
     config.datagram_receive = Some(6);
     config.datagram_send = 7;
+    config.track_streams = true;
     let fields = "max_remote_uni: 1, max_remote_bidi: 2, send_window: 3, receive_window: 4, stream_window: 5";
     for (side, number) in [(Side::Client, 0), (Side::Server, 1)] {
         let made = StreamsState::new(side, &config).unwrap();
         let wanted = format!(
-            "conn_open qs_config {{ side: {number}, {fields}, datagram_receive: 6, datagram_send: 7 }}"
+            "conn_open qs_config {{ side: {number}, {fields}, datagram_receive: 6, datagram_send: 7, track_streams: 1 }}"
         );
         assert_eq!(calls(), [wanted]);
         assert_eq!(open(), (1, 0));
@@ -58,8 +59,11 @@ fn an_endpoint_is_opened_with_its_configuration_and_freed_once() {
         assert_eq!(open(), (0, 0));
     }
     config.datagram_receive = None;
+    config.track_streams = false;
     drop(StreamsState::new(Side::Client, &config));
-    assert!(calls()[0].contains("datagram_receive: 18446744073709551615,"));
+    let made = &calls()[0];
+    assert!(made.contains("datagram_receive: 18446744073709551615,"));
+    assert!(made.ends_with("track_streams: 0 }"));
     for (result, error) in [
         (sys::QS_ERR_ARGUMENT, ConfigError::OutOfRange),
         (sys::QS_ERR_NOMEM, ConfigError::OutOfMemory),
@@ -167,17 +171,36 @@ fn streams_are_opened_and_accepted() {
         (sys::QS_ERR_NOMEM, Err(OutOfMemory)),
     ];
     results(&opened, &[23], |state| state.open(Dir::Uni));
-    let accepted = [(sys::QS_OK, Some(ID)), (sys::QS_DONE, None)];
-    results(&accepted, &[23], |state| state.accept(Dir::Uni));
+    results(&opened, &[23], |state| state.accept(Dir::Uni));
     let mut state = endpoint();
     for dir in Dir::iter() {
-        assert!(state.open(dir).is_ok() && state.accept(dir).is_some());
+        assert!(state.open(dir).is_ok() && state.accept(dir).is_ok());
     }
     let wanted = [
         "stream_open [0]",
         "stream_accept [0]",
         "stream_open [1]",
         "stream_accept [1]",
+    ];
+    assert_eq!(calls(), wanted);
+}
+
+#[test]
+fn a_stream_has_a_word_of_the_host() {
+    let set = [
+        (sys::QS_OK, Ok(())),
+        (sys::QS_ERR_NO_STREAM, Err(StreamError::ClosedStream)),
+        (sys::QS_ERR_NOMEM, Err(StreamError::OutOfMemory)),
+    ];
+    results(&set, &[], |state| state.set_user(ID, 1));
+    let told = [(sys::QS_OK, Some(24)), (sys::QS_ERR_NO_STREAM, None)];
+    results(&told, &[24], |state| state.user(ID));
+    let mut state = endpoint();
+    assert_eq!(state.set_user(ID, u64::MAX), Ok(()));
+    assert_eq!(state.user(ID), Some(0));
+    let wanted = [
+        "stream_set_user [23, 18446744073709551615]",
+        "stream_user [23]",
     ];
     assert_eq!(calls(), wanted);
 }
@@ -195,16 +218,40 @@ fn each_event_has_its_fields() {
         Event::Available { dir },
         Event::DatagramReceived,
         Event::DatagramsUnblocked,
+        Event::Closed { id, user: 10 },
     ];
     for (kind, event) in (1..).zip(events) {
-        will(sys::QS_OK, &[kind, 1, 23, 9]);
+        will(sys::QS_OK, &[kind, 1, 23, 9, 10]);
         assert_eq!(state.poll(), Some(event));
     }
-    will(sys::QS_OK, &[1, 0, 0, 0]);
+    will(sys::QS_OK, &[1, 0, 0, 0, 0]);
     assert_eq!(state.poll(), Some(Event::Opened { dir: Dir::Bi }));
-    will(sys::QS_DONE, &[1, 1, 1, 1]);
+    will(sys::QS_DONE, &[1, 1, 1, 1, 1]);
     assert_eq!(state.poll(), None);
-    assert_eq!(calls(), ["poll"; 10]);
+    assert_eq!(calls(), ["poll"; 11]);
+}
+
+#[test]
+fn each_counter_has_its_field() {
+    let state = endpoint();
+    let numbers: Vec<u64> = (1..=21).collect();
+    will(sys::QS_OK, &numbers);
+    let stats = state.stats();
+    for (frames, first) in [(stats.sent, 1), (stats.received, 11)] {
+        assert_eq!((frames.stream, frames.reset_stream), (first, first + 1));
+        assert_eq!(
+            (frames.stop_sending, frames.max_data),
+            (first + 2, first + 3)
+        );
+        assert_eq!(frames.max_stream_data, first + 4);
+        assert_eq!(frames.max_streams_bidi, first + 5);
+        assert_eq!(frames.max_streams_uni, first + 6);
+        assert_eq!(frames.data_blocked, first + 7);
+        assert_eq!(frames.stream_data_blocked, first + 8);
+        assert_eq!(frames.datagram, first + 9);
+    }
+    assert_eq!(stats.lost_bytes, 21);
+    assert_eq!(calls(), ["get_stats"]);
 }
 
 #[test]
@@ -565,6 +612,110 @@ fn chunks_are_written_until_one_is_not_whole() {
     assert_eq!(refused, Err(WriteError::Stopped(code(4))));
     assert_eq!(chunks, [&b""[..], b"c"]);
     calls();
+}
+
+#[test]
+fn a_stream_is_written_and_finished() {
+    let whole = |bytes, finished| {
+        let mut written = Written::default();
+        assert!(written.add(bytes, bytes));
+        written.finished = finished;
+        written
+    };
+    let written = [
+        (sys::QS_OK, Ok(whole(4, true))),
+        (sys::QS_ERR_NOMEM, Ok(whole(4, false))),
+        (sys::QS_ERR_BLOCKED, Err(WriteError::Blocked)),
+        (sys::QS_ERR_STOPPED, Err(WriteError::Stopped(code(9)))),
+        (sys::QS_ERR_NO_STREAM, Err(WriteError::ClosedStream)),
+    ];
+    results(&written, &[4, 9], |state| {
+        state.send_stream(ID).write_fin(b"abcd")
+    });
+    let mut state = endpoint();
+    will(sys::QS_OK, &[3]);
+    let written = state.send_stream(ID).write_fin(b"abcd").unwrap();
+    assert_eq!((written.bytes, written.chunks), (3, 0));
+    assert!(!written.finished);
+    for data in [&b"abcd"[..], b""] {
+        will(sys::QS_ERR_NOMEM, &[0]);
+        let refused = state.send_stream(ID).write_fin(data);
+        assert_eq!(refused, Err(WriteError::OutOfMemory));
+    }
+    let ended = state.send_stream(ID).write_fin(b"").unwrap();
+    assert!(ended.finished && ended.bytes == 0);
+    let wanted = [
+        "stream_write_fin 23 [97, 98, 99, 100] 1",
+        "stream_write_fin 23 [97, 98, 99, 100] 1",
+        "stream_write_fin 23 [] 1",
+        "stream_write_fin 23 [] 1",
+    ];
+    assert_eq!(calls(), wanted);
+}
+
+#[test]
+fn the_last_chunk_finishes_the_stream() {
+    let mut state = endpoint();
+    let mut chunks: [&[u8]; 3] = [b"ab", b"", b"cde"];
+    for taken in [2, 0, 3] {
+        will(sys::QS_OK, &[taken]);
+    }
+    let mut stream = state.send_stream(ID);
+    let written = stream.write_chunks_fin(&mut chunks).unwrap();
+    assert_eq!((written.bytes, written.chunks), (5, 3));
+    assert!(written.finished && chunks == [b""; 3]);
+    let wanted = [
+        "stream_write 23 [97, 98]",
+        "stream_write 23 []",
+        "stream_write_fin 23 [99, 100, 101] 1",
+    ];
+    assert_eq!(calls(), wanted);
+    let mut chunks: [&[u8]; 2] = [b"ab", b"cd"];
+    will(sys::QS_OK, &[1]);
+    let written = stream.write_chunks_fin(&mut chunks).unwrap();
+    assert_eq!((written.bytes, written.chunks), (1, 0));
+    assert!(!written.finished && chunks == [&b"b"[..], b"cd"]);
+    assert_eq!(calls(), ["stream_write 23 [97, 98]"]);
+    for (result, taken) in [
+        (sys::QS_OK, 1),
+        (sys::QS_ERR_NOMEM, 2),
+        (sys::QS_ERR_BLOCKED, 0),
+    ] {
+        let mut chunks: [&[u8]; 2] = [b"ab", b"cd"];
+        will(sys::QS_OK, &[2]);
+        will(result, &[taken as u64]);
+        let written = stream.write_chunks_fin(&mut chunks).unwrap();
+        assert_eq!((written.bytes, written.finished), (2 + taken, false));
+        assert_eq!(chunks, [b"", &b"cd"[taken..]]);
+    }
+    calls();
+    for chunks in [&mut [&b"ab"[..]][..], &mut [b"cd", b"ef"]] {
+        will(sys::QS_ERR_STOPPED, &[0, 4]);
+        let refused = stream.write_chunks_fin(chunks);
+        assert_eq!(refused, Err(WriteError::Stopped(code(4))));
+    }
+    let ended = stream.write_chunks_fin(&mut []).unwrap();
+    assert_eq!((ended.chunks, ended.finished), (0, true));
+    let wanted = [
+        "stream_write_fin 23 [97, 98] 1",
+        "stream_write 23 [99, 100]",
+        "stream_write_fin 23 [] 1",
+    ];
+    assert_eq!(calls(), wanted);
+}
+
+#[test]
+fn the_room_of_a_stream_is_asked() {
+    let room = [
+        (sys::QS_OK, Ok(6)),
+        (sys::QS_ERR_NO_STREAM, Err(StreamError::ClosedStream)),
+    ];
+    results(&room, &[6], |state| state.send_room(ID));
+    results(&room, &[6], |state| state.send_stream(ID).send_room());
+    let mut state = endpoint();
+    state.send_room(ID).unwrap();
+    state.send_stream(ID).send_room().unwrap();
+    assert_eq!(calls(), ["stream_send_room [23]"; 2]);
 }
 
 #[test]

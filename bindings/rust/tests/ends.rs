@@ -76,7 +76,7 @@ fn much_goes_through() -> Result<()> {
             a.send_stream(id).finish()?;
         }
         exchange(&mut a, &mut b)?;
-        b.accept(Dir::Uni);
+        b.accept(Dir::Uni)?;
         let end = loop {
             match b.recv_stream(id).read(&mut buffer) {
                 Ok(Some(count)) => read.extend_from_slice(&buffer[..count]),
@@ -101,7 +101,7 @@ fn streams_end_early() -> Result<()> {
     a.send_stream(id).write(b"hello")?;
     exchange(&mut a, &mut b)?;
     assert_eq!(b.poll(), Some(Event::Opened { dir: Dir::Bi }));
-    assert_eq!(b.accept(Dir::Bi), Some(id));
+    assert_eq!(b.accept(Dir::Bi), Ok(Some(id)));
     b.recv_stream(id).stop(varint(7))?;
     exchange(&mut b, &mut a)?;
     let stopped = Event::Stopped {
@@ -214,7 +214,7 @@ fn frames_are_taken_one_by_one() -> Result<()> {
     b.on_stream(id, 0, b"hel", false, 1200)?;
     b.on_datagram(b"news")?;
     assert_eq!(b.recv_datagram().as_deref(), Some(&b"news"[..]));
-    assert_eq!(b.accept(Dir::Uni), Some(id));
+    assert_eq!(b.accept(Dir::Uni), Ok(Some(id)));
     let mut text = [0; 3];
     let mut stream = b.recv_stream(id);
     assert_eq!(stream.read_into(&mut text, false)?, Some((3, 0)));
@@ -227,7 +227,7 @@ fn frames_are_taken_one_by_one() -> Result<()> {
     assert_eq!(stream.read_into(&mut text, false)?, None);
     let next = stream_id(6);
     b.on_reset_stream(next, varint(9), varint(0))?;
-    assert_eq!(b.accept(Dir::Uni), Some(next));
+    assert_eq!(b.accept(Dir::Uni), Ok(Some(next)));
     assert_eq!(b.recv_stream(next).received_reset()?, Some(varint(9)));
     Ok(())
 }

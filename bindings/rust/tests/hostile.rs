@@ -179,7 +179,7 @@ fn leaves_all(answer: Answer) -> bool {
 /// Reads at most so many pieces of a stream in order, in one call. Streams of the peer are accepted first.
 fn read(end: &mut StreamsState, id: StreamId, pieces: usize) -> (Vec<u8>, Last) {
     for dir in [Dir::Bi, Dir::Uni] {
-        while end.accept(dir).is_some() {}
+        while end.accept(dir).expect("memory").is_some() {}
     }
     // Each piece takes its share of the buffer, 2048 bytes.
     let mut bytes = vec![0; 2048 * pieces];
@@ -455,7 +455,7 @@ fn busy_client() -> Result<StreamsState> {
     for step in OPENED {
         hand_in(&mut end, step).ok_or("no frame")?.0?;
     }
-    let accepted: Vec<StreamId> = from_fn(|| end.accept(Dir::Uni)).collect();
+    let accepted: Vec<StreamId> = from_fn(|| end.accept(Dir::Uni).expect("memory")).collect();
     assert_eq!(accepted, [3, 7, 11, 15].map(stream_id));
     end.recv_stream(stream_id(11)).stop(varint(9))?;
     for _ in 0..20 {
@@ -499,7 +499,7 @@ fn all_that_follows(end: &mut StreamsState) -> Result<Vec<String>> {
         while let Some(id) = end.open(dir)? {
             told.push(format!("opened {id}"));
         }
-        while let Some(id) = end.accept(dir) {
+        while let Some(id) = end.accept(dir).expect("memory") {
             told.push(format!("accepted {id}"));
         }
     }

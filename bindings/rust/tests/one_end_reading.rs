@@ -15,7 +15,7 @@ fn as_many_chunks_are_given_as_are_asked_for() -> Result<()> {
     let mut offset = 0;
     for size in 1..20 {
         take_in(&mut end, 3, offset, size, false)?;
-        end.accept(Dir::Uni);
+        end.accept(Dir::Uni)?;
         let mut stream = end.recv_stream(stream_id(3));
         let mut reader = stream.chunks(true);
         let answers: Vec<_> = (0..9).map(|_| reader.next(2)).collect();
@@ -35,7 +35,7 @@ fn as_many_chunks_are_given_as_are_asked_for() -> Result<()> {
 fn a_read_gives_credit() -> Result<()> {
     let mut end = client(128, WINDOW, 8)?;
     take_in(&mut end, 3, 0, 1, false)?;
-    end.accept(Dir::Uni);
+    end.accept(Dir::Uni)?;
     let mut byte = [0];
     assert_eq!(end.recv_stream(stream_id(3)).read(&mut byte)?, Some(1));
     assert!(end.due().control);
@@ -53,7 +53,7 @@ fn a_read_initialises_as_many_bytes_as_it_says() -> Result<()> {
     let mut offset = 0;
     for (size, ordered) in (1..20).map(|size| (size, true)).chain([(9, false)]) {
         take_in(&mut end, 3, offset, size, false)?;
-        end.accept(Dir::Uni);
+        end.accept(Dir::Uni)?;
         let mut room = [MaybeUninit::new(255); 32];
         let mut stream = end.recv_stream(stream_id(3));
         let read = stream.read_into_uninit(&mut room, ordered)?;

@@ -121,7 +121,7 @@ fn server_that_gave_up() -> Result<(StreamsState, Token)> {
     for number in [0, 4, 8, 12] {
         let id = stream_id(number);
         end.on_stream(id, 0, b"", false, 0)?;
-        assert_eq!(end.accept(Dir::Bi), Some(id));
+        assert_eq!(end.accept(Dir::Bi), Ok(Some(id)));
         end.send_stream(id).reset(varint(7))?;
         end.recv_stream(id).stop(varint(9))?;
     }

@@ -16,7 +16,7 @@ fn sizes() -> impl Iterator<Item = usize> {
 // Takes a frame of so many bytes behind what came, and reads it in two chunks.
 fn pass_in(end: &mut StreamsState, offset: u64, size: usize) -> Result<()> {
     take_in(end, 3, offset, size, false)?;
-    end.accept(Dir::Uni);
+    end.accept(Dir::Uni)?;
     let mut stream = end.recv_stream(stream_id(3));
     let mut chunks = stream.chunks(true);
     let (mut bytes, mut last) = (Vec::new(), None);
@@ -49,7 +49,7 @@ fn every_size_is_taken_and_read() -> Result<()> {
 fn pass_stream(end: &mut StreamsState, stream: u64) -> Result<()> {
     take_in(end, stream, 0, 3, true)?;
     let id = stream_id(stream);
-    assert_eq!(end.accept(Dir::Uni), Some(id));
+    assert_eq!(end.accept(Dir::Uni), Ok(Some(id)));
     for offset in 0..3 {
         let mut byte = [0];
         let read = end.recv_stream(id).read_into(&mut byte, false)?;
@@ -229,7 +229,7 @@ fn with_entries(count: u64) -> Result<StreamsState> {
     // A stream of the peer opens all below it.
     take_in(&mut end, 4 * count - 1, 0, 0, false)?;
     for index in 0..count {
-        assert_eq!(end.accept(Dir::Uni), Some(stream_id(4 * index + 3)));
+        assert_eq!(end.accept(Dir::Uni), Ok(Some(stream_id(4 * index + 3))));
         queue_entry(&mut end, index)?;
     }
     Ok(end)

@@ -63,7 +63,7 @@ fn wide_client() -> Result<StreamsState> {
 fn pass(end: &mut StreamsState, count: usize) -> Result<()> {
     let offset = end.info().data_received;
     take_in(end, 3, offset, count, false)?;
-    end.accept(Dir::Uni);
+    end.accept(Dir::Uni)?;
     let mut bytes = vec![0; count];
     let read = end.recv_stream(stream_id(3)).read_into(&mut bytes, true)?;
     assert_eq!(read, Some((count, offset)));

@@ -101,7 +101,7 @@ fn counted(end: &mut StreamsState, window: u64) -> (u64, u64) {
 fn a_stopped_half_counts_without_storing() -> Result<()> {
     let mut end = client(128, 1024, 8)?;
     take_in(&mut end, 3, 3, 3, false)?;
-    end.accept(Dir::Uni);
+    end.accept(Dir::Uni)?;
     assert_eq!(counted(&mut end, 1024), (0, 6));
     assert!(!end.due().control);
     end.recv_stream(ID).stop(varint(9))?;
@@ -165,7 +165,7 @@ fn pass(end: &mut StreamsState, start: u64, size: usize, seed: u32) -> Result<()
     let bytes = draw(seed, size);
     end.on_stream(ID, start, &bytes, false, size)?;
     assert_eq!(end.info().data_received, start + size as u64);
-    end.accept(Dir::Uni);
+    end.accept(Dir::Uni)?;
     let mut given = Vec::new();
     let cut = seed as usize % (size + 1);
     if cut > 0 {
@@ -205,7 +205,7 @@ fn takes_any_number_of_frames() -> Result<()> {
         let answer = answer_of(end.on_stream(ID, at as u64, &[*byte], false, 1))?;
         assert_eq!(answer, TAKEN, "at {at}");
     }
-    end.accept(Dir::Uni);
+    end.accept(Dir::Uni)?;
     let mut given = Vec::new();
     while read_chunk(&mut end, 1 << 17, &mut given)? {}
     assert!(given == bytes);

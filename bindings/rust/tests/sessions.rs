@@ -43,6 +43,7 @@ impl RawServer {
             stream_window: 1000,
             datagram_receive: 1000,
             datagram_send: 1000,
+            track_streams: 0,
         };
         let mut server = RawServer(sys::qs_conn::ZERO);
         let answer = unsafe { sys::qs_conn_open(&mut server.0, &config) };
@@ -86,7 +87,7 @@ fn bytes_come_and_are_settled_once() -> Result<()> {
     assert_eq!(b.receive(&out[..sent.len])?, Received::All);
     assert_eq!(RawServer::new().receive(&out[..sent.len]), sent.len);
     assert_eq!(b.poll(), Some(Event::Opened { dir: Dir::Uni }));
-    assert_eq!(b.accept(Dir::Uni), Some(FIRST));
+    assert_eq!(b.accept(Dir::Uni), Ok(Some(FIRST)));
     let chunk = b.recv_stream(FIRST).chunks(true).next(100)?.unwrap();
     assert_eq!((chunk.offset, chunk.bytes.as_slice()), (0, &b"hello"[..]));
     assert_eq!(b.recv_stream(FIRST).chunks(true).next(100)?, None);
@@ -106,7 +107,7 @@ fn one_read_gives_the_bytes_and_the_end() -> Result<()> {
     a.send_stream(FIRST).write(b"hello")?;
     a.send_stream(FIRST).finish()?;
     assert_eq!(b.receive(&frames(&mut a, Emit::default())?)?, Received::All);
-    assert_eq!(b.accept(Dir::Uni), Some(FIRST));
+    assert_eq!(b.accept(Dir::Uni), Ok(Some(FIRST)));
     // Room for two pieces: the bytes come as one, and the end is told by the second read.
     let mut buffer = [0; 2 * 2048];
     let read = b.recv_stream(FIRST).read_many(&mut buffer)?;
@@ -126,6 +127,33 @@ fn what_was_lost_is_sent_again() -> Result<()> {
     let resent = a.emit(&mut again, Emit::default())?.unwrap();
     assert_eq!(first, again);
     assert_eq!(resent.token.into_inner(), 2);
+    Ok(())
+}
+
+#[test]
+fn frames_and_lost_bytes_are_counted() -> Result<()> {
+    let (mut a, mut b) = (session(Side::Client)?, session(Side::Server)?);
+    assert_eq!(a.stats(), b.stats());
+    assert_eq!(a.open(Dir::Uni)?, Some(FIRST));
+    assert_eq!(a.send_stream(FIRST).write(b"hello")?, 5);
+    a.send_datagram(b"news", false)?;
+    a.send_datagram(b"more", false)?;
+    let mut out = [0; 100];
+    let sent = a.emit(&mut out, Emit::default())?.unwrap();
+    assert_eq!((a.stats().sent.stream, a.stats().sent.datagram), (1, 2));
+    assert_eq!(a.stats().lost_bytes, 0);
+    a.lost(sent.token)?;
+    assert_eq!(a.stats().lost_bytes, 5);
+    let len = a.emit(&mut out, Emit::default())?.unwrap().len;
+    assert_eq!((a.stats().sent.stream, a.stats().sent.datagram), (2, 2));
+    assert_eq!(b.receive(&out[..len])?, Received::All);
+    assert_eq!(b.stats().received.stream, 1);
+    assert_eq!(b.stats().received.datagram, 0);
+    // MAX_DATA of a client, then a stream that the client may not open: the frame is rejected, and counts.
+    assert!(b.receive(b"\x10\x3f\x0a\x20\x00").is_err());
+    assert_eq!(b.stats().received.max_data, 1);
+    assert_eq!(b.stats().received.stream, 2);
+    assert_eq!(b.stats().sent, a.stats().received);
     Ok(())
 }
 

@@ -88,7 +88,7 @@ Answer = Result (Unit {0}) OutOfMemory
 
 control-blank : (most : ℕ) (a b : Writing) (r : Answer) → WritesControl most a r b → b.payload.bytes ≡ [] → (a.payload.bytes ≡ []) × (b.payload.control ≡ a.payload.control)
 control-blank most a b r w e =
-    let s = sheet-blank w.from.entries (place_in a w.before).sheet (sym (ap (λ (x : Sheet). x.bytes) w.from.sheet) ∙ e) in
+    let s = sheet-blank w.from.entries (place_in a).sheet (sym (ap (λ (x : Sheet). x.bytes) w.from.sheet) ∙ e) in
     (s.0, ap (λ (x : Sheet). x.sent) w.from.sheet ∙ s.1)
 
 streams-blank : (most : ℕ) (fair : Bool) (a b : Writing) (r : Answer) → WritesStreams most fair a r b → b.payload.bytes ≡ [] → (a.payload.bytes ≡ []) × (b.payload.streams ≡ a.payload.streams)
@@ -123,7 +123,7 @@ module _ (most : ℕ) (fair : Bool) (s : Session) where
   control-part : (r : Answer) (b : Writing) → WritesControl most (blank s) r b → (control : Pending) → control ≡ b.payload.control → EmitsControl most (end_of s) r b.end b.payload.bytes control
   control-part r b w control e =
       let P : Pending → Type 0 = λ x. EmitsControl most (end_of s) r b.end b.payload.bytes x in
-      subst P (sym e) (record { before = w.before; after = w.after; writes = w.writes; full = w.full; refused = w.refused; from = w.from })
+      subst P (sym e) (record { before = (blank s).sent; after = b.sent; writes = w.writes; full = w.full; refused = w.refused; from = w.from })
 
   -- what is said of the frames of streams that were handed back before and behind
   abbrev Carried : Writing → Writing → List StreamMeta → List StreamMeta → Type 0

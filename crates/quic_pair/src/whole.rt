@@ -34,8 +34,7 @@ impl Pair {
         Ok(self.deliver_frames(payload, most))
     }
 
-    // Delivers the frames of a payload that has so many bytes, each by itself: the session does not say of a whole payload which
-    // of its frames it could not compact, and these do not count as accepted.
+    // Delivers the frames of a payload that has so many bytes, each by a step of its own.
     fn deliver_frames(&mut self, payload: usize, most: usize) -> Received
         requires decided { (pair_view self.old).waits ≡ None }
         requires there { HasBytesWithin (pair_view self.old) payload most }

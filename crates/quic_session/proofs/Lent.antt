@@ -64,5 +64,5 @@ handed-over {s = s} {e = e} l u bytes end beside same =
       cut = l.cut;
       control = l.control;
       streams = l.streams;
-      leaves = (end ∙ l.leaves.0, ap (λ (b : Beside). b.datagrams) beside ∙ l.leaves.1);
+      leaves = (end ∙ l.leaves.0, ap (λ (b : Beside). b.datagrams) beside ∙ l.leaves.1, ap (λ (b : Beside). b.counts) beside ∙ l.leaves.2);
     }

@@ -5,6 +5,7 @@ pub mod Cut
 pub mod Directed
 pub mod Emitted
 pub mod Lent
+pub mod Marks
 pub mod Payloads
 pub mod Places
 pub mod Processed

@@ -1,6 +1,5 @@
 -- Traces that go on with the frames of a payload.
 use Rattle.std.proofs.Common.{◌≡◌, List, [], ◌∷◌, ◌++◌, refl, sym, subst}
-use Rattle.quic_history.specs.World.{Made}
 use Rattle.quic_history.specs.History.{Event, From}
 use Rattle.quic_endpoint.specs.Receiving.{with_call_made}
 use Rattle.quic_session.specs.declared.session.Session.{Session}

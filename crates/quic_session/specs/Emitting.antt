@@ -1,5 +1,5 @@
 -- What a session writes into a payload, and what becomes of the session.
-use Rattle.std.specs.Prelude.{ℕ, ◌≡◌, ◌==◌, ◌⊎◌, ◌&&◌, ◌<◌, ◌≤◌, ◌+◌, min, not, nat_le, Bool, true, false, List, [], ◌++◌, length, take, drop, Option, Some, None, Result, Ok, Err, is_err, OnOk, OnErr}
+use Rattle.std.specs.Prelude.{ℕ, ◌≡◌, ◌==◌, ◌⊎◌, ◌&&◌, ◌<◌, ◌≤◌, ◌+◌, ◌-◌, min, not, nat_le, Bool, true, false, List, [], ◌++◌, length, take, drop, Option, Some, None, Result, Ok, Err, is_err, OnOk, OnErr}
 use Rattle.quic_values.specs.declared.memory.OutOfMemory.{OutOfMemory}
 use Rattle.quic_wire.specs.declared.frame.Datagram.{Datagram}
 use Rattle.quic_wire.specs.declared.frame.StreamMeta.{StreamMeta}
@@ -21,6 +21,7 @@ use Rattle.quic_session.specs.declared.session.Session.{Session}
 use Rattle.quic_session.specs.declared.buffer.Buffer.{Buffer}
 use Rattle.quic_session.specs.declared.emitting.Emitted.{Emitted}
 use Rattle.quic_session.specs.declared.emitting.Parts.{Parts}
+use Rattle.quic_session.specs.Counts.{counts_of, with_sent_frames, datagrams_counted, streams_counted}
 use Rattle.quic_session.specs.Sessions.{Datagrams, end_of, datagrams_view}
 use Rattle.quic_session.specs.Tokens.{unsettled, KeepsNew}
 
@@ -33,35 +34,35 @@ pub record DraftView : Type 0 where
   pub streams : List StreamMeta
 
 -- end, datagrams: those of a session that writes
+-- sent: the counters of the frames that it wrote
 -- payload: the payload so far
 pub record Writing : Type 0 where
   pub end : EndState
   pub datagrams : Datagrams
+  pub sent : FrameStats
   pub payload : DraftView
 
 abbrev pub payload_of : Payload → DraftView
 payload_of d = record { bytes = d.bytes.items; control = noted_in d.sent.control; streams = d.sent.streams.items }
 
 abbrev pub writing_of : Session → Payload → Writing
-writing_of s d = record { end = end_of s; datagrams = datagrams_view s; payload = payload_of d }
+writing_of s d = record { end = end_of s; datagrams = datagrams_view s; sent = (counts_of s).sent; payload = payload_of d }
 
 -- a session with an empty payload
 abbrev pub blank : Session → Writing
-blank s = record { end = end_of s; datagrams = datagrams_view s; payload = record { bytes = []; control = nothing; streams = [] } }
+blank s = record { end = end_of s; datagrams = datagrams_view s; sent = (counts_of s).sent; payload = record { bytes = []; control = nothing; streams = [] } }
 
 -- the end that writes, with its payload and the counters of its frames
-abbrev pub place_in : Writing → FrameStats → PayloadPlace
-place_in a stats = record { end = a.end.streams; pending = a.end.pending; sheet = record { bytes = a.payload.bytes; sent = a.payload.control; stats = stats } }
+abbrev pub place_in : Writing → PayloadPlace
+place_in a = record { end = a.end.streams; pending = a.end.pending; sheet = record { bytes = a.payload.bytes; sent = a.payload.control; stats = a.sent } }
 
 -- control frames are written (RFC 9000 section 19), as the writer of the streams does
 pub record WritesControl (most : ℕ) (a : Writing) (answer : Result (Unit {0}) OutOfMemory) (b : Writing) : Type 0 where
-  pub before : FrameStats
-  pub after : FrameStats
-  pub writes : WritesKinds most control_order (place_in a before) answer (place_in b after)
-  pub full : OnOk answer ((kind : ControlKind) → IsKindDone kind most (place_in b after))
-  pub refused : OnErr answer (LeavesKind most (place_in b after))
+  pub writes : WritesKinds most control_order (place_in a) answer (place_in b)
+  pub full : OnOk answer ((kind : ControlKind) → IsKindDone kind most (place_in b))
+  pub refused : OnErr answer (LeavesKind most (place_in b))
   pub within : length a.payload.bytes ≤ most → length b.payload.bytes ≤ most
-  pub from : WritesEntries (place_in a before).sheet (place_in b after).sheet a.end.streams b.end.streams
+  pub from : WritesEntries (place_in a).sheet (place_in b).sheet a.end.streams b.end.streams
   pub streams : b.payload.streams ≡ a.payload.streams
   pub datagrams : b.datagrams ≡ a.datagrams
 
@@ -87,6 +88,7 @@ pub record WritesDatagrams (most : ℕ) (a : Writing) (answer : Result (Unit {0}
   pub full : OnOk answer (AreSent most b.datagrams.state.outgoing b.payload.bytes)
   pub refused : OnErr answer (length b.payload.bytes + 9 < most)
   pub datagrams : b.datagrams ≡ with_datagrams_sent a.datagrams some b.datagrams.state.outgoing
+  pub sent : b.sent ≡ datagrams_counted a.sent (length a.datagrams.state.outgoing - length b.datagrams.state.outgoing)
   pub end : b.end ≡ a.end
   pub payload : b.payload ≡ record a.payload { bytes = b.payload.bytes }
 
@@ -101,6 +103,7 @@ pub record WritesStreams (most : ℕ) (fair : Bool) (a : Writing) (answer : Resu
   pub pending : b.end.pending ≡ a.end.pending
   pub control : b.payload.control ≡ a.payload.control
   pub datagrams : b.datagrams ≡ a.datagrams
+  pub sent : b.sent ≡ streams_counted a.sent (length b.payload.streams - length a.payload.streams)
 
 -- a part is written, if it was asked for
 abbrev pub IfAsked : Bool → (Writing → Result (Unit {0}) OutOfMemory → Writing → Type 0) → Writing → Result (Unit {0}) OutOfMemory → Writing → Type 0
@@ -116,9 +119,9 @@ pub data WritesParts (most : ℕ) (parts : Parts) (fair : Bool) (a : Writing) : 
       → IfAsked parts.datagrams (WritesDatagrams most) b (Err error) c → WritesParts most parts fair a (Err error) c
   control_alone : {error : OutOfMemory} {b : Writing} → IfAsked parts.control (WritesControl most) a (Err error) b → WritesParts most parts fair a (Err error) b
 
--- the end and the datagrams are as they were left
-abbrev pub IsLeftAs : Writing → Session → Type 0
-IsLeftAs a s = (end_of s ≡ a.end) × (datagrams_view s ≡ a.datagrams)
+-- the end, the datagrams, and the counters of frames that were sent are as they were left
+abbrev pub IsLeftAs : Writing → Session → Session → Type 0
+IsLeftAs a s t = (end_of t ≡ a.end) × (datagrams_view t ≡ a.datagrams) × (counts_of t ≡ with_sent_frames (counts_of s) a.sent)
 
 -- no payload was kept
 abbrev pub KeepsNone : Session → Session → Type 0
@@ -129,7 +132,7 @@ pub record WritesNothing (most : ℕ) (parts : Parts) (fair : Bool) (s : Session
   pub written : Writing
   pub writes : WritesParts most parts fair (blank s) answer written
   pub none : written.payload.bytes ≡ []
-  pub leaves : IsLeftAs written t
+  pub leaves : IsLeftAs written s t
 
 -- a payload is copied into a buffer of so many bytes, whose other bytes stay. Nothing may stand behind it where it ends with
 -- the buffer and has data
@@ -152,13 +155,13 @@ pub record WritesPayload (parts : Parts) (fair : Bool) (s : Session) (out : List
   pub cut : e.cut ≡ is_err answer
   pub control : noted_in sent.control ≡ written.payload.control
   pub streams : sent.streams.items ≡ written.payload.streams
-  pub leaves : IsLeftAs written t
+  pub leaves : IsLeftAs written s t
 
 -- what came of writing a payload into a buffer
 abbrev pub EmitsPayload : Session → Parts → Bool → List ℕ → Result (Option Emitted) OutOfMemory → Session → List ℕ → Type 0
 EmitsPayload s parts fair out (Ok (Some e)) t new = WritesPayload parts fair s out e t new
 EmitsPayload s parts fair out (Ok None) t new = (new ≡ out) × KeepsNone s t × WritesNothing (length out) parts fair s (Ok tt) t
-EmitsPayload s parts fair out (Err error) t new = (new ≡ out) × KeepsNone s t × (((end_of t ≡ end_of s) × (datagrams_view t ≡ datagrams_view s)) ⊎ WritesNothing (length out) parts fair s (Err error) t)
+EmitsPayload s parts fair out (Err error) t new = (new ≡ out) × KeepsNone s t × (((end_of t ≡ end_of s) × (datagrams_view t ≡ datagrams_view s) × (counts_of t ≡ counts_of s)) ⊎ WritesNothing (length out) parts fair s (Err error) t)
 
 -- a payload of at most so many bytes is lent: it is what the memory has in which it stands. Nothing may stand behind it where it
 -- has all these bytes, and data
@@ -180,13 +183,13 @@ pub record LendsPayload (most : ℕ) (parts : Parts) (fair : Bool) (s : Session)
   pub cut : e.cut ≡ is_err answer
   pub control : noted_in sent.control ≡ written.payload.control
   pub streams : sent.streams.items ≡ written.payload.streams
-  pub leaves : IsLeftAs written t
+  pub leaves : IsLeftAs written s t
 
 -- what came of writing a payload that is lent
 abbrev pub EmitsLent : ℕ → Session → Parts → Bool → Result (Option Emitted) OutOfMemory → Session → List ℕ → Type 0
 EmitsLent most s parts fair (Ok (Some e)) t held = LendsPayload most parts fair s e t held
 EmitsLent most s parts fair (Ok None) t held = KeepsNone s t × WritesNothing most parts fair s (Ok tt) t
-EmitsLent most s parts fair (Err error) t held = KeepsNone s t × (((end_of t ≡ end_of s) × (datagrams_view t ≡ datagrams_view s)) ⊎ WritesNothing most parts fair s (Err error) t)
+EmitsLent most s parts fair (Err error) t held = KeepsNone s t × (((end_of t ≡ end_of s) × (datagrams_view t ≡ datagrams_view s) × (counts_of t ≡ counts_of s)) ⊎ WritesNothing most parts fair s (Err error) t)
 
 -- a buffer stays where no payload was written into it
 abbrev pub KeepsBuffer : Result (Option Emitted) OutOfMemory → Buffer → Buffer → Type 0

@@ -1,6 +1,9 @@
+pub mod Closing
+pub mod Counts
 pub mod Datagrams
 pub mod Emitting
 pub mod Lending
+pub mod Marks
 pub mod Params
 pub mod Places
 pub mod Processing
@@ -11,3 +14,5 @@ pub mod Sessions
 pub mod Settling
 pub mod Slots
 pub mod Tokens
+pub mod Rooms
+pub mod Users

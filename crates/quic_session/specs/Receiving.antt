@@ -21,6 +21,9 @@ use Rattle.quic_session.specs.declared.receiving.Received.{Received}
 use Rattle.quic_session.specs.declared.receiving.PayloadError.{PayloadError}
 use Rattle.quic_session.specs.declared.receiving.PayloadError.TheVariants as payload_error
 use Rattle.quic_session.specs.Sessions.{Datagrams, end_of, datagrams_view}
+use Rattle.quic_session.specs.Users.{users_view}
+use Rattle.quic_session.specs.Counts.{counts_of, with_frame_counted}
+use Rattle.quic_session.specs.Closing.{touched_by_frame}
 
 -- a datagram was queued: the oldest went until it fits, and that one came is to be told where none waited
 pub record QueuesDatagram (d : Datagrams) (datagram : Datagram) (e : Datagrams) : Type 0 where
@@ -42,6 +45,8 @@ pub record ReceivesDatagram (s : Session) (frame : Frame) (answer : Result Shoul
   pub is : frame ≡ frames.Datagram datagram
   pub keeps : KeepsDatagram (datagrams_view s) datagram answer (datagrams_view t)
   pub end : end_of t ≡ end_of s
+  pub users : t.users ≡ s.users
+  pub counts : counts_of t ≡ counts_of s
 
 -- the code with which the connection is to be closed for STREAM_DATA_BLOCKED: STREAM_STATE_ERROR for a stream on which only
 -- this endpoint sends (RFC 9000 section 19.13), STREAM_LIMIT_ERROR for one of the peer beyond the limit that was advertised
@@ -82,10 +87,16 @@ pub record ReceivesOther (s : Session) (frame : Frame) (size : ℕ) (answer : Re
   pub receives : ReceivesAt (end_of s) frame answer (end_of t)
   pub accounts : AccountsFrame (end_of s).streams frame size answer (end_of t).streams
   pub datagrams : datagrams_view t ≡ datagrams_view s
+  pub users : users_view t.users ≡ touched_by_frame frame (users_view s.users)
+  pub counts : counts_of t ≡ counts_of s
 
--- what came of a frame
+-- what came of a frame that was counted
+abbrev pub ProcessesFrame : Session → Frame → ℕ → Result ShouldTransmit ReceiveError → Session → Type 0
+ProcessesFrame s frame size answer t = ReceivesDatagram s frame answer t ⊎ RefusesMisdirected s frame answer t ⊎ ReceivesOther s frame size answer t
+
+-- what came of a frame. It is counted first, so also one that is rejected is
 abbrev pub ReceivesFrame : Session → Frame → ℕ → Result ShouldTransmit ReceiveError → Session → Type 0
-ReceivesFrame s frame size answer t = ReceivesDatagram s frame answer t ⊎ RefusesMisdirected s frame answer t ⊎ ReceivesOther s frame size answer t
+ReceivesFrame s frame size answer t = ProcessesFrame (with_frame_counted s frame) frame size answer t
 
 -- the call of the streams that a frame is. They refuse no STOP_SENDING with an error of the connection: one that is refused
 -- so was misdirected, and is none
@@ -93,7 +104,7 @@ abbrev pub call_of : Frame → Result ShouldTransmit ReceiveError → Option Eve
 call_of (frames.StopSending f) (Err (receive_error.Transport error)) = None
 call_of frame answer = event_of frame answer
 
--- nothing changed beside the end and the datagrams
+-- nothing changed beside the end, the datagrams, and what was counted
 abbrev pub ReceivesOnly : Session → Session → Type 0
 ReceivesOnly s t = (t.conn ≡ s.conn) × (t.unsettled ≡ s.unsettled)
 
@@ -102,12 +113,13 @@ pub record FrameCall : Type 0 where
   pub frame : Frame
   pub answer : Result ShouldTransmit ReceiveError
 
--- the answer for the payload. A refusal to put pieces together leaves the frame taken
+-- the result for the payload. A frame that could not be compacted for lack of memory is buffered and raised no event, so it
+-- counts as not processed: when it is processed again, the event follows
 abbrev pub payload_answer : Result ShouldTransmit ReceiveError → Result (Unit {0}) PayloadError
 payload_answer (Ok transmit) = Ok tt
 payload_answer (Err (receive_error.Transport error)) = Err (payload_error.Transport error)
 payload_answer (Err receive_error.OutOfMemory) = Err payload_error.OutOfMemory
-payload_answer (Err receive_error.CompactionMemory) = Ok tt
+payload_answer (Err receive_error.CompactionMemory) = Err payload_error.OutOfMemory
 
 -- frames of a payload of so many bytes were taken, one after another
 pub data TakesFrames (size : ℕ) (s : Session) : List FrameCall → Session → Type 0 where

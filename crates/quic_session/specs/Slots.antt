@@ -7,6 +7,7 @@ use Rattle.quic_streams.specs.declared.settling.SentPayload.{SentPayload}
 use Rattle.quic_session.specs.declared.session.Session.{Session}
 use Rattle.quic_session.specs.declared.emitting.Emitted.{Emitted}
 use Rattle.quic_session.specs.declared.emitting.Parts.{Parts}
+use Rattle.quic_session.specs.Counts.{counts_of}
 use Rattle.quic_session.specs.Sessions.{end_of, datagrams_view}
 use Rattle.quic_session.specs.Tokens.{unsettled, places, KeepsNew}
 use Rattle.quic_session.specs.Emitting.{KeepsNone, WritesNothing}
@@ -16,6 +17,8 @@ pub record ChangesSlots (s t : Session) : Type 0 where
   pub end : end_of t ≡ end_of s
   pub datagrams : datagrams_view t ≡ datagrams_view s
   pub conn : t.conn ≡ s.conn
+  pub users : t.users ≡ s.users
+  pub counts : counts_of t ≡ counts_of s
   pub kept : KeepsNone s t
 
 -- a slot was reserved, or there was no memory for it
@@ -33,6 +36,8 @@ pub record KeepsEmpty (s : Session) (token : ℕ) (t : Session) : Type 0 where
   pub end : end_of t ≡ end_of s
   pub datagrams : datagrams_view t ≡ datagrams_view s
   pub conn : t.conn ≡ s.conn
+  pub users : t.users ≡ s.users
+  pub counts : counts_of t ≡ counts_of s
 
 -- what came of writing a payload whose slot was reserved: if no payload was written, the slot stays free, and an error means
 -- that memory ran out while frames were written

@@ -42,9 +42,11 @@ LAST = 2 ^ 64 - 1
 abbrev pub HaveTokensBelow : (ℕ → Option SentPayload) → ℕ → Type 0
 HaveTokensBelow f next = (token : ℕ) → next ≤ token → f token ≡ None
 
--- a payload is kept under the next token. It is a new one and greater than those before, unless it is the last that there is
+-- a payload is kept under the next token. It is not 0, and it is a new one and greater than those before, unless it is the last
+-- that there is
 pub record KeepsNew (f : ℕ → Option SentPayload) (next : ℕ) (sent : SentPayload) (token : ℕ) (g : ℕ → Option SentPayload) (after : ℕ) : Type 0 where
   pub is_next : token ≡ next
+  pub positive : 0 < token
   pub new : next < LAST → f token ≡ None
   pub below : next < LAST → HaveTokensBelow f next
   pub kept : g ≡ with_payload f token (Some sent)

@@ -17,7 +17,10 @@ ghost use Rattle.quic_streams.specs.Writing.{IsWrittenAs};
 ghost use Rattle.quic_endpoint.specs.Ends.{with_world, FinishesAt, ResetsAt, SetsPriorityAt, StopsReading, TellsResetAt, ReadsAt, RefusesRead};
 ghost use Rattle.quic_session.specs.Sessions.{end_of, beside_of};
 ghost use Rattle.quic_session.specs.Reading.{ReadsInto, CopiesChunk, AreFew};
+ghost use Rattle.quic_session.specs.Users.{users_view};
+ghost use Rattle.quic_session.specs.Closing.{with_opened_stream, with_given_stream, touched_if, touched_by_read};
 
+use crate::closing::touch_by_read;
 use crate::memory::put_chunks;
 use crate::session::Session;
 use quic_receiving::{HandleError, ReadableError};
@@ -34,8 +37,13 @@ impl Session {
         ensures pending { (end_of self.new).pending ≡ (end_of self.old).pending }
         ensures from { (m : Made) (h : List Event) → From m h (end_of self.old).streams → From m (Sending (OpenedOwn dir (is_shut self.old.conn) result) ∷ h) (end_of self.new).streams }
         ensures beside { beside_of self.new ≡ beside_of self.old }
+        ensures users { users_view self.new.users ≡ with_opened_stream result (users_view self.old.users) }
     {
-        self.endpoint.open_in(self.conn, dir)
+        let opened = self.endpoint.open_in(self.conn, dir);
+        if let Ok(Some(id)) = &opened {
+            self.users.add(*id);
+        }
+        opened
     }
 
     /// Accepts the next stream of a direction that the peer opened (RFC 9000 section 2.1).
@@ -44,8 +52,13 @@ impl Session {
         ensures accepted { end_of self.new ≡ with_world (end_of self.old) (with_accepted (end_of self.old).streams dir) }
         ensures from { (m : Made) (h : List Event) → From m h (end_of self.old).streams → From m (Accepted dir result ∷ h) (end_of self.new).streams }
         ensures beside { beside_of self.new ≡ beside_of self.old }
+        ensures users { users_view self.new.users ≡ with_given_stream result (users_view self.old.users) }
     {
-        self.endpoint.accept(dir)
+        let accepted = self.endpoint.accept(dir);
+        if let Some(id) = accepted {
+            self.users.add(id);
+        }
+        accepted
     }
 
     /// Writes the first of `bytes` to a stream, and returns how many.
@@ -57,6 +70,7 @@ impl Session {
         ensures from { was_given (end_of self.old).streams id ≡ true → IsWrittenAs result (λ written. (m : Made) (h : List Event) → From m h (end_of self.old).streams
             → From m (Sending (WroteOwn id (slice_lists bytes.now) (is_shut self.old.conn) written) ∷ h) (end_of self.new).streams) }
         ensures beside { beside_of self.new ≡ beside_of self.old }
+        ensures users { self.new.users ≡ self.old.users }
     {
         if !self.was_given(id) {
             return Err(WriteError::ClosedStream);
@@ -79,6 +93,7 @@ impl Session {
         ensures left { IfOk result (λ written. chunks.new ≡ without_first written.bytes chunks.old) }
         ensures kept { OnErr result (chunks.new ≡ chunks.old) }
         ensures beside { beside_of self.new ≡ beside_of self.old }
+        ensures users { self.new.users ≡ self.old.users }
     {
         if !self.was_given(id) {
             return Err(WriteError::ClosedStream);
@@ -93,6 +108,7 @@ impl Session {
         ensures memory { result ≡ Err FinishError.OutOfMemory → end_refusal ((end_of self.old).streams.out.halves id) ≡ None }
         ensures from { was_given (end_of self.old).streams id ≡ true → (m : Made) (h : List Event) → From m h (end_of self.old).streams → From m (Sending (FinishedOwn id result) ∷ h) (end_of self.new).streams }
         ensures beside { beside_of self.new ≡ beside_of self.old }
+        ensures users { self.new.users ≡ self.old.users }
     {
         if !self.was_given(id) {
             return Err(FinishError::ClosedStream);
@@ -107,6 +123,7 @@ impl Session {
         ensures memory { result ≡ Err HandleError.OutOfMemory → is_reset_or_gone ((end_of self.old).streams.out.halves id) ≡ false }
         ensures from { was_given (end_of self.old).streams id ≡ true → (m : Made) (h : List Event) → From m h (end_of self.old).streams → From m (Sending (ResetOwn id error_code result) ∷ h) (end_of self.new).streams }
         ensures beside { beside_of self.new ≡ beside_of self.old }
+        ensures users { self.new.users ≡ self.old.users }
     {
         if !self.was_given(id) {
             return Err(HandleError::ClosedStream);
@@ -121,6 +138,7 @@ impl Session {
         ensures memory { result ≡ Err HandleError.OutOfMemory → is_some ((end_of self.old).streams.out.halves id) ≡ true }
         ensures from { was_given (end_of self.old).streams id ≡ true → (m : Made) (h : List Event) → From m h (end_of self.old).streams → From m (Sending (SetOwnPriority id priority result) ∷ h) (end_of self.new).streams }
         ensures beside { beside_of self.new ≡ beside_of self.old }
+        ensures users { self.new.users ≡ self.old.users }
     {
         if !self.was_given(id) {
             return Err(HandleError::ClosedStream);
@@ -129,29 +147,25 @@ impl Session {
     }
 
     /// The priority of a stream: the one that was set last, 0 at first.
-    pub fn priority(&mut self, id: StreamId) -> Result<i32, ClosedStream>
-        ensures told { was_given (end_of self.old).streams id ≡ true → result ≡ told_of_half (λ s. s.priority) ((end_of self.old).streams.out.halves id) }
-        ensures unknown { was_given (end_of self.old).streams id ≡ false → result ≡ Err (record {}) }
-        ensures same { end_of self.new ≡ end_of self.old }
-        ensures beside { beside_of self.new ≡ beside_of self.old }
+    pub fn priority(&self, id: StreamId) -> Result<i32, ClosedStream>
+        ensures told { was_given (end_of self.now).streams id ≡ true → result ≡ told_of_half (λ s. s.priority) ((end_of self.now).streams.out.halves id) }
+        ensures unknown { was_given (end_of self.now).streams id ≡ false → result ≡ Err (record {}) }
     {
         if !self.was_given(id) {
             return Err(ClosedStream);
         }
-        self.endpoint.priority(id)
+        self.endpoint.streams().priority(id)
     }
 
     /// The code of the first STOP_SENDING that the peer sent for a stream (RFC 9000 section 19.5).
-    pub fn stopped(&mut self, id: StreamId) -> Result<Option<VarInt>, ClosedStream>
-        ensures told { was_given (end_of self.old).streams id ≡ true → result ≡ told_of_half (λ s. s.stop_reason) ((end_of self.old).streams.out.halves id) }
-        ensures unknown { was_given (end_of self.old).streams id ≡ false → result ≡ Err (record {}) }
-        ensures same { end_of self.new ≡ end_of self.old }
-        ensures beside { beside_of self.new ≡ beside_of self.old }
+    pub fn stopped(&self, id: StreamId) -> Result<Option<VarInt>, ClosedStream>
+        ensures told { was_given (end_of self.now).streams id ≡ true → result ≡ told_of_half (λ s. s.stop_reason) ((end_of self.now).streams.out.halves id) }
+        ensures unknown { was_given (end_of self.now).streams id ≡ false → result ≡ Err (record {}) }
     {
         if !self.was_given(id) {
             return Err(ClosedStream);
         }
-        self.endpoint.stopped(id)
+        self.endpoint.streams().stopped(id)
     }
 
     /// Stops the receive side of a stream (RFC 9000 section 3.5). MAX_STREAMS is queued if it is due.
@@ -160,11 +174,14 @@ impl Session {
         ensures unknown { was_given (end_of self.old).streams id ≡ false → (result ≡ Err HandleError.ClosedStream) × (end_of self.new ≡ end_of self.old) }
         ensures from { was_given (end_of self.old).streams id ≡ true → (m : Made) (h : List Event) → From m h (end_of self.old).streams → From m (Stopped id error_code result ∷ h) (end_of self.new).streams }
         ensures beside { beside_of self.new ≡ beside_of self.old }
+        ensures users { users_view self.new.users ≡ touched_if (was_given (end_of self.old).streams id) id (users_view self.old.users) }
     {
         if !self.was_given(id) {
             return Err(HandleError::ClosedStream);
         }
-        self.endpoint.stop(id, error_code)
+        let answer = self.endpoint.stop(id, error_code);
+        self.users.touch(id);
+        answer
     }
 
     /// The code with which the peer reset a stream, if it did (RFC 9000 section 19.4). The first answer frees the stream, and
@@ -174,11 +191,14 @@ impl Session {
         ensures unknown { was_given (end_of self.old).streams id ≡ false → (result ≡ Err HandleError.ClosedStream) × (end_of self.new ≡ end_of self.old) }
         ensures from { was_given (end_of self.old).streams id ≡ true → (m : Made) (h : List Event) → From m h (end_of self.old).streams → From m (ToldReset id result ∷ h) (end_of self.new).streams }
         ensures beside { beside_of self.new ≡ beside_of self.old }
+        ensures users { users_view self.new.users ≡ touched_if (was_given (end_of self.old).streams id) id (users_view self.old.users) }
     {
         if !self.was_given(id) {
             return Err(HandleError::ClosedStream);
         }
-        self.endpoint.received_reset(id)
+        let answer = self.endpoint.received_reset(id);
+        self.users.touch(id);
+        answer
     }
 
     /// Reads at most `times` chunks of a stream, each of at most `most` bytes, in order or as they were received.
@@ -198,11 +218,17 @@ impl Session {
         ensures from_refused { was_given (end_of self.old).streams id ≡ true → IfErr result (λ error. (m : Made) (h : List Event) → From m h (end_of self.old).streams
             → From m (Began id ordered (Err error) ∷ h) (end_of self.new).streams) }
         ensures beside { beside_of self.new ≡ beside_of self.old }
+        ensures users { IfOk result (λ r. users_view self.new.users ≡ touched_by_read id r.last (users_view self.old.users)) }
+        ensures kept { OnErr result (users_view self.new.users ≡ users_view self.old.users) }
     {
         if !self.was_given(id) {
             return Err(ReadableError::ClosedStream);
         }
-        self.endpoint.read(id, ordered, most, times)
+        let answer = self.endpoint.read(id, ordered, most, times);
+        if let Ok(some) = &answer {
+            touch_by_read(&mut self.users, id, some.last);
+        }
+        answer
     }
 }
 
@@ -227,12 +253,15 @@ impl Session {
     ) -> Result<ReadInto, ReadableError>
         ensures reads { ReadsInto self.old id ordered out.old result self.new out.new }
         ensures beside { beside_of self.new ≡ beside_of self.old }
+        ensures users { IfOk result (λ r. users_view self.new.users ≡ touched_by_read id r.last (users_view self.old.users)) }
+        ensures kept { OnErr result (users_view self.new.users ≡ users_view self.old.users) }
     {
         if !self.was_given(id) {
             return Err(ReadableError::ClosedStream);
         }
         let list = mem::replace(&mut self.chunks, Vec::new(self.alloc));
         let some = self.endpoint.read_reusing(id, ordered, out.len(), 1, list)?;
+        touch_by_read(&mut self.users, id, some.last);
         let read = put_chunk(&some, out);
         let mut list = some.chunks;
         put_chunks(&mut self.pieces, &mut list);

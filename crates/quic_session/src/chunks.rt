@@ -1,11 +1,14 @@
 //! Reads of several chunks in one call.
 
-ghost use Rattle.std.specs.Prelude.{◌≡◌, ◌≤◌, ◌+◌, ◌++◌, length, take, drop};
+ghost use Rattle.std.specs.Prelude.{◌≡◌, ◌≤◌, ◌+◌, ◌++◌, length, take, drop, IfOk, OnErr};
 ghost use Rattle.quic_history.specs.Reading.{bytes_in};
+ghost use Rattle.quic_session.specs.Users.{users_view};
+ghost use Rattle.quic_session.specs.Closing.{touched_by_read};
 ghost use Rattle.quic_session.specs.Sessions.{beside_of};
 ghost use Rattle.quic_session.specs.Reading.{chunk_bytes, offset_of_first, chunks_for, ReadsManyInto};
 
 use crate::application::ReadInto;
+use crate::closing::touch_by_read;
 use crate::memory;
 use crate::session::Session;
 use quic_assembler::Chunk;
@@ -19,6 +22,8 @@ impl Session {
     pub fn read_many(&mut self, id: StreamId, out: &mut [u8]) -> Result<ReadInto, ReadableError>
         ensures reads { ReadsManyInto self.old id out.old result self.new out.new }
         ensures beside { beside_of self.new ≡ beside_of self.old }
+        ensures users { IfOk result (λ r. users_view self.new.users ≡ touched_by_read id r.last (users_view self.old.users)) }
+        ensures kept { OnErr result (users_view self.new.users ≡ users_view self.old.users) }
     {
         if !self.was_given(id) {
             return Err(ReadableError::ClosedStream);
@@ -27,6 +32,7 @@ impl Session {
         let times = chunks_for(out.len());
         let share = out.len() / times as usize;
         let some = self.endpoint.read_reusing(id, true, share, times, list)?;
+        touch_by_read(&mut self.users, id, some.last);
         let count = put_chunks(&some.chunks, out);
         let offset = offset_of_first(&some.chunks);
         let last = some.last;

@@ -3,7 +3,7 @@
 ghost use Rattle.std.specs.Prelude.{◌≡◌, ◌==◌, ◌-◌, not, OnOk, IfErr, None, length, option_map};
 ghost use Rattle.quic_datagrams.specs.Sending.{send_refusal};
 ghost use Rattle.quic_datagrams.specs.Queue.{with_newest, total_cost};
-ghost use Rattle.quic_session.specs.Sessions.{end_of, datagrams_view, beside_of, with_datagrams, with_oldest_out, with_max, next_told, with_told};
+ghost use Rattle.quic_session.specs.Sessions.{end_of, datagrams_view, beside_of, with_datagrams, oldest_received, without_oldest, with_max, next_told, with_told};
 ghost use Rattle.quic_session.specs.Datagrams.{IsRefusedAs, after_error};
 
 use crate::session::Session;
@@ -52,6 +52,7 @@ impl Session {
         ensures err { IfErr result (λ e. self.new.datagrams ≡ after_error self.old.datagrams e) }
         ensures others { beside_of self.new ≡ with_datagrams (beside_of self.old) (record (datagrams_view self.old) { state = self.new.datagrams }) }
         ensures end { end_of self.new ≡ end_of self.old }
+        ensures users { self.new.users ≡ self.old.users }
     {
         let Ok(bytes) = Bytes::copy_from_slice(self.alloc, content) else {
             return Err(DatagramError::OutOfMemory);
@@ -74,30 +75,20 @@ impl Session {
     }
 
     /// How many bytes the oldest received datagram has, if one waits.
-    pub fn datagram_length(&mut self) -> Option<usize>
-        ensures length { result ≡ option_map length (with_oldest_out (datagrams_view self.old)).waiting }
-        ensures datagrams { beside_of self.new ≡ with_datagrams (beside_of self.old) (with_oldest_out (datagrams_view self.old)) }
-        ensures end { end_of self.new ≡ end_of self.old }
+    pub fn datagram_length(&self) -> Option<usize>
+        ensures { result ≡ option_map length (oldest_received self.now.datagrams.incoming) }
     {
-        if self.waiting.is_none() {
-            self.waiting = self.datagrams.recv();
-        }
-        match &self.waiting {
-            Some(bytes) => Some(bytes.len()),
-            None => None,
-        }
+        self.datagrams.incoming.oldest_length()
     }
 
     /// Takes the oldest received datagram out, if one waits.
     pub fn recv_datagram(&mut self) -> Option<Bytes>
-        ensures oldest { result ≡ (with_oldest_out (datagrams_view self.old)).waiting }
-        ensures datagrams { beside_of self.new ≡ with_datagrams (beside_of self.old) (record (with_oldest_out (datagrams_view self.old)) { waiting = None }) }
+        ensures oldest { result ≡ oldest_received self.old.datagrams.incoming }
+        ensures datagrams { beside_of self.new ≡ with_datagrams (beside_of self.old) (without_oldest (datagrams_view self.old)) }
         ensures end { end_of self.new ≡ end_of self.old }
+        ensures users { self.new.users ≡ self.old.users }
     {
-        match self.waiting.take() {
-            Some(bytes) => Some(bytes),
-            None => self.datagrams.recv(),
-        }
+        self.datagrams.recv()
     }
 
     /// Takes the bytes of a datagram that is no longer needed, so that their memory is used again.
@@ -130,6 +121,7 @@ impl Session {
     pub fn set_max_datagram(&mut self, max: Option<usize>)
         ensures datagrams { beside_of self.new ≡ with_datagrams (beside_of self.old) (with_max (datagrams_view self.old) max) }
         ensures end { end_of self.new ≡ end_of self.old }
+        ensures users { self.new.users ≡ self.old.users }
     {
         self.limits.max = max;
         let unblocked = Datagrams::new(&mut self.datagrams, self.limits).drop_oversized();
@@ -143,6 +135,7 @@ impl Session {
         ensures event { result ≡ next_told (datagrams_view self.old) }
         ensures told { beside_of self.new ≡ with_datagrams (beside_of self.old) (with_told (datagrams_view self.old)) }
         ensures end { end_of self.new ≡ end_of self.old }
+        ensures users { self.new.users ≡ self.old.users }
     {
         if !self.told_received {
             self.told_received = true;

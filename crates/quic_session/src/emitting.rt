@@ -3,7 +3,8 @@
 ghost use Rattle.std.specs.Prelude.{◌≡◌, ◌≤◌, ◌<◌, ◌+◌, ◌++◌, min, take, drop, IfOk, IfSome, OnOk, OnErr, [], length};
 ghost use Rattle.std.specs.Vec.{vec_ptr};
 ghost use Rattle.quic_retransmits.specs.Pending.{nothing};
-ghost use Rattle.quic_session.specs.Sessions.{end_of, datagrams_view, beside_of};
+ghost use Rattle.quic_session.specs.Counts.{counts_of, with_sent_frames};
+ghost use Rattle.quic_session.specs.Sessions.{end_of, datagrams_view, beside_of, with_counts};
 ghost use Rattle.quic_session.specs.Tokens.{unsettled, places, KeepsNew};
 ghost use Rattle.quic_session.specs.Emitting.{payload_of, writing_of, WritesControl, WritesDatagrams, WritesStreams, SendsOldest, AreSent, with_datagrams_sent, IfAsked, WritesParts, EmitsPayload, EmitsLent, KeepsBuffer, IsLent, GoesOnWithFrames};
 ghost use Rattle.quic_session.specs.Slots.{EmitsReserved};
@@ -12,7 +13,6 @@ use crate::buffer::Buffer;
 use crate::session::Session;
 use quic_datagrams::DatagramState;
 use quic_endpoint::Payload;
-use quic_streams::stats::FrameStats;
 use quic_values::OutOfMemory;
 use quic_wire::frame::Datagram;
 use quic_wire::memory::{is_kept, room_for};
@@ -68,6 +68,7 @@ impl Session {
         ensures emits { EmitsPayload self.old parts fair out.old result self.new out.new }
         ensures from { GoesOnWithFrames (length out.old) fair (end_of self.old).streams (end_of self.new).streams }
         ensures conn { self.new.conn ≡ self.old.conn }
+        ensures users { self.new.users ≡ self.old.users }
     {
         let Some(emitted) = self.emit_lent(out.len(), parts, fair)? else {
             return Ok(None);
@@ -100,6 +101,7 @@ impl Session {
         ensures reserved { 0 < places self.old.unsettled → EmitsReserved max_size self.old parts fair result self.new }
         ensures from { GoesOnWithFrames max_size fair (end_of self.old).streams (end_of self.new).streams }
         ensures conn { self.new.conn ≡ self.old.conn }
+        ensures users { self.new.users ≡ self.old.users }
     {
         self.unsettled.reserve()?;
         let memory = mem::replace(&mut self.bytes, Vec::new(self.alloc));
@@ -127,6 +129,7 @@ impl Session {
         ensures buffer { KeepsBuffer result buffer.old buffer.new }
         ensures from { GoesOnWithFrames max_size fair (end_of self.old).streams (end_of self.new).streams }
         ensures conn { self.new.conn ≡ self.old.conn }
+        ensures users { self.new.users ≡ self.old.users }
     {
         let Some(emitted) = self.emit_lent(max_size, parts, fair)? else {
             return Ok(None);
@@ -140,6 +143,7 @@ impl Session {
         ensures given { buffer.new.bytes ≡ self.old.bytes }
         ensures end { end_of self.new ≡ end_of self.old }
         ensures beside { beside_of self.new ≡ beside_of self.old }
+        ensures users { self.new.users ≡ self.old.users }
     {
         mem::swap(&mut self.bytes, &mut buffer.bytes);
     }
@@ -152,6 +156,8 @@ impl Session {
         ensures keeps { KeepsNew (unsettled self.old.unsettled) self.old.unsettled.next draft.sent result.token (unsettled self.new.unsettled) self.new.unsettled.next }
         ensures end { end_of self.new ≡ end_of self.old }
         ensures conn { self.new.conn ≡ self.old.conn }
+        ensures users { self.new.users ≡ self.old.users }
+        ensures counts { counts_of self.new ≡ counts_of self.old }
         ensures datagrams { datagrams_view self.new ≡ datagrams_view self.old }
     {
         let Payload { bytes, sent } = draft;
@@ -183,8 +189,10 @@ impl Session {
         fair: bool,
     ) -> Result<(), OutOfMemory>
         ensures writes { WritesParts max_size parts fair (writing_of self.old draft.old) result (writing_of self.new draft.new) }
+        ensures counts { counts_of self.new ≡ with_sent_frames (counts_of self.old) (counts_of self.new).sent }
         ensures payloads { self.new.unsettled ≡ self.old.unsettled }
         ensures conn { self.new.conn ≡ self.old.conn }
+        ensures users { self.new.users ≡ self.old.users }
     {
         self.write_control(draft, max_size, parts.control)?;
         self.write_datagrams(draft, max_size, parts.datagrams)?;
@@ -199,14 +207,14 @@ impl Session {
         asked: bool,
     ) -> Result<(), OutOfMemory>
         ensures writes { IfAsked asked (WritesControl max_size) (writing_of self.old draft.old) result (writing_of self.new draft.new) }
-        ensures beside { beside_of self.new ≡ beside_of self.old }
+        ensures beside { beside_of self.new ≡ with_counts (beside_of self.old) (with_sent_frames (counts_of self.old) (counts_of self.new).sent) }
+        ensures users { self.new.users ≡ self.old.users }
     {
         if !asked {
             return Ok(());
         }
-        // The host is not told how many frames of each kind there are.
-        let mut counters = FrameStats::new();
-        self.endpoint.write_control(draft, &mut counters, max_size)
+        self.endpoint
+            .write_control(draft, &mut self.counts.sent, max_size)
     }
 
     // Writes the datagrams that fit, if they were asked for.
@@ -217,13 +225,18 @@ impl Session {
         asked: bool,
     ) -> Result<(), OutOfMemory>
         ensures writes { IfAsked asked (WritesDatagrams max_size) (writing_of self.old draft.old) result (writing_of self.new draft.new) }
+        ensures counts { counts_of self.new ≡ with_sent_frames (counts_of self.old) (counts_of self.new).sent }
         ensures payloads { self.new.unsettled ≡ self.old.unsettled }
         ensures conn { self.new.conn ≡ self.old.conn }
+        ensures users { self.new.users ≡ self.old.users }
     {
         if !asked {
             return Ok(());
         }
+        let before = self.datagrams.outgoing.len();
         let (sent, answer) = write_waiting(&mut self.datagrams, &mut draft.bytes, max_size);
+        let count = before.saturating_sub(self.datagrams.outgoing.len());
+        self.counts.add_sent_datagrams(count);
         self.tell_room_if(sent);
         answer
     }
@@ -232,8 +245,10 @@ impl Session {
     fn tell_room_if(&mut self, sent: bool)
         ensures told { datagrams_view self.new ≡ with_datagrams_sent (datagrams_view self.old) sent self.old.datagrams.outgoing }
         ensures end { end_of self.new ≡ end_of self.old }
+        ensures counts { counts_of self.new ≡ counts_of self.old }
         ensures payloads { self.new.unsettled ≡ self.old.unsettled }
         ensures conn { self.new.conn ≡ self.old.conn }
+        ensures users { self.new.users ≡ self.old.users }
     {
         if sent && self.datagrams.send_blocked {
             self.datagrams.send_blocked = false;
@@ -250,12 +265,17 @@ impl Session {
         asked: bool,
     ) -> Result<(), OutOfMemory>
         ensures writes { IfAsked asked (WritesStreams max_size fair) (writing_of self.old draft.old) result (writing_of self.new draft.new) }
-        ensures beside { beside_of self.new ≡ beside_of self.old }
+        ensures beside { beside_of self.new ≡ with_counts (beside_of self.old) (with_sent_frames (counts_of self.old) (counts_of self.new).sent) }
+        ensures users { self.new.users ≡ self.old.users }
     {
         if !asked {
             return Ok(());
         }
-        self.endpoint.write_streams(draft, max_size, fair)
+        let before = draft.sent.streams.len();
+        let answer = self.endpoint.write_streams(draft, max_size, fair);
+        let count = draft.sent.streams.len().saturating_sub(before);
+        self.counts.add_sent_streams(count);
+        answer
     }
 }
 

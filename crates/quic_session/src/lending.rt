@@ -1,11 +1,14 @@
 //! Reads whose bytes are lent: they stay in the memory in which they came.
 
-ghost use Rattle.std.specs.Prelude.{◌≡◌, ◌≤◌, ◌+◌, [], length, map, vec_len, vec_capacity};
+ghost use Rattle.std.specs.Prelude.{◌≡◌, ◌≤◌, ◌+◌, [], length, map, vec_len, vec_capacity, IfOk, OnErr};
+ghost use Rattle.quic_session.specs.Users.{users_view};
+ghost use Rattle.quic_session.specs.Closing.{touched_by_read};
 ghost use Rattle.quic_session.specs.Sessions.{end_of, beside_of};
 ghost use Rattle.quic_session.specs.Lending.{lent_bytes, lends_for, ReadsLent};
 
 use crate::application::ReadInto;
 use crate::chunks::offset_of_first;
+use crate::closing::touch_by_read;
 use crate::lent_bytes::LentBytes;
 use crate::memory::put_lent;
 use crate::session::Session;
@@ -30,6 +33,8 @@ impl Session {
     pub fn read_lent(&mut self, id: StreamId, most: usize) -> Result<ReadInto, ReadableError>
         ensures reads { ReadsLent self.old id most result self.new }
         ensures beside { beside_of self.new ≡ beside_of self.old }
+        ensures users { IfOk result (λ r. users_view self.new.users ≡ touched_by_read id r.last (users_view self.old.users)) }
+        ensures kept { OnErr result (users_view self.new.users ≡ users_view self.old.users) }
     {
         if !self.was_given(id) {
             return Err(ReadableError::ClosedStream);
@@ -43,6 +48,7 @@ impl Session {
         let some = self
             .endpoint
             .read_reusing(id, true, usize::MAX, times, list)?;
+        touch_by_read(&mut self.users, id, some.last);
         let offset = offset_of_first(&some.chunks);
         let last = some.last;
         self.chunks = lend_all(some.chunks, &mut self.lent);
@@ -65,6 +71,7 @@ impl Session {
         ensures none { self.new.lent.items ≡ [] }
         ensures end { end_of self.new ≡ end_of self.old }
         ensures beside { beside_of self.new ≡ beside_of self.old }
+        ensures users { self.new.users ≡ self.old.users }
     {
         put_lent(&mut self.pieces, &mut self.lent);
     }

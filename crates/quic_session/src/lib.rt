@@ -5,6 +5,8 @@
 pub mod application;
 pub mod buffer;
 pub mod chunks;
+pub mod closing;
+pub mod counts;
 pub mod datagrams;
 pub mod emitting;
 pub mod lending;
@@ -14,9 +16,12 @@ pub mod params;
 pub mod processing;
 pub mod questions;
 pub mod receiving;
+pub mod rooms;
 mod runs;
 pub mod session;
 pub mod settling;
+mod tracked;
 pub mod unsettled;
+pub mod users;
 
 pub use session::Session;

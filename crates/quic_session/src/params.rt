@@ -45,6 +45,7 @@ impl Session {
         ensures free { are_stream_limits params.now ≡ true → (end_of self.old).streams.out.own_bi.opened ≡ 0 → (end_of self.old).streams.out.own_uni.opened ≡ 0 → IsOk result }
         ensures from { (m : Made) (h : List Event) → From m h (end_of self.old).streams → From m (with_call_made (params_call params.now result) h) (end_of self.new).streams }
         ensures beside { beside_of self.new ≡ beside_of self.old }
+        ensures users { self.new.users ≡ self.old.users }
     {
         if !are_stream_limits(params) {
             return Err(ParamsError::Transport(TransportError::new(

@@ -2,8 +2,9 @@
 
 ghost use Rattle.std.specs.Prelude.{◌≡◌, ◌<◌, OnOk, OnErr, None, option_copied};
 ghost use Rattle.quic_outgoing.specs.Early.{NoneAcked};
-ghost use Rattle.quic_history.specs.Early.{SendsAgain};
+ghost use Rattle.quic_history.specs.Early.{SendsAgain, ResendsOnlyUnacked};
 ghost use Rattle.quic_retransmits.specs.Pending.{pending_view};
+ghost use Rattle.quic_session.specs.Counts.{counts_of};
 ghost use Rattle.quic_session.specs.Sessions.{end_of, beside_of, datagrams_view};
 ghost use Rattle.quic_session.specs.Settling.{SettlesOnly};
 ghost use Rattle.quic_session.specs.Tokens.{unsettled, places};
@@ -53,11 +54,14 @@ impl Session {
     /// changes.
     pub fn send_again(&mut self, pending: Retransmits) -> Result<(), OutOfMemory>
         ensures sends { NoneAcked (end_of self.old).streams.out.side (end_of self.old).streams.out.halves → SendsAgain (end_of self.old).streams result (end_of self.new).streams }
+        ensures unacked { ResendsOnlyUnacked (end_of self.old).streams (end_of self.new).streams }
         ensures pending { OnOk result ((end_of self.new).pending ≡ pending_view pending) }
         ensures payloads { OnOk result (unsettled self.new.unsettled ≡ (λ token. None)) }
         ensures err { OnErr result (end_of self.new ≡ end_of self.old) }
         ensures kept { OnErr result (beside_of self.new ≡ beside_of self.old) }
+        ensures counts { counts_of self.new ≡ counts_of self.old }
         ensures others { SettlesOnly self.old self.new }
+        ensures users { self.new.users ≡ self.old.users }
     {
         self.endpoint.send_again(pending)?;
         self.unsettled.clear(self.alloc);

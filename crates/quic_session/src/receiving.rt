@@ -10,10 +10,12 @@ ghost use Rattle.quic_history.specs.Sends.{sending_refusal};
 ghost use Rattle.quic_history.specs.World.{Made, remote_of};
 ghost use Rattle.quic_history.specs.History.{Event, From};
 ghost use Rattle.quic_endpoint.specs.Receiving.{data_length, with_call_made};
+ghost use Rattle.quic_session.specs.Counts.{counts_of};
 ghost use Rattle.quic_session.specs.Sessions.{end_of, datagrams_view};
-ghost use Rattle.quic_session.specs.Receiving.{KeepsDatagram, ReceivesFrame, ReceivesOnly, ReceivesPayload, ReceivesFrames, ReceivesFrom, payload_answer, blocked_refusal, direction_refusal, call_of};
+ghost use Rattle.quic_session.specs.Receiving.{KeepsDatagram, ProcessesFrame, ReceivesFrame, ReceivesOnly, ReceivesPayload, ReceivesFrames, ReceivesFrom, payload_answer, blocked_refusal, direction_refusal, call_of};
 
 use crate::buffer::Buffer;
+use crate::closing::touch_by_frame;
 use crate::session::Session;
 use quic_receiving::ShouldTransmit;
 use quic_values::{Bytes, Dir, OutOfMemory, StreamId};
@@ -178,9 +180,10 @@ impl Session {
 
     /// Takes a frame of the peer that came in a payload of so many bytes (RFC 9000 section 19): data, a reset, a stop and
     /// limits are handed to the streams, a datagram is kept, any other frame changes nothing. Where the answer asks for
-    /// MAX_DATA it is queued, and MAX_STREAMS where it is due, unless memory ran out.
+    /// MAX_DATA it is queued, and MAX_STREAMS where it is due, unless memory ran out. The frame is counted, also if it is
+    /// rejected.
     ///
-    /// A frame that names a stream on which the peer may not send it is an error, and nothing changes.
+    /// A frame that names a stream on which the peer may not send it is an error, and nothing else changes.
     /// STREAM_STATE_ERROR: STOP_SENDING for a stream on which only the peer sends, or for one of this endpoint that is not
     /// open (section 19.5); STREAM_DATA_BLOCKED for a stream on which only this endpoint sends (section 19.13).
     /// STREAM_LIMIT_ERROR: either of them for a stream of the peer beyond the limit that was advertised (section 4.6).
@@ -194,11 +197,29 @@ impl Session {
         ensures from { (m : Made) (h : List Event) → From m h (end_of self.old).streams → From m (with_call_made (call_of frame result) h) (end_of self.new).streams }
         ensures others { ReceivesOnly self.old self.new }
     {
+        self.counts.add_received(&frame);
+        self.process_frame(frame, payload_len)
+    }
+
+    // Processes a frame that was counted.
+    fn process_frame(
+        &mut self,
+        frame: Frame,
+        payload_len: usize,
+    ) -> Result<ShouldTransmit, ReceiveError>
+        requires { data_length frame ≤ payload_len }
+        ensures receives { ProcessesFrame self.old frame payload_len result self.new }
+        ensures from { (m : Made) (h : List Event) → From m h (end_of self.old).streams → From m (with_call_made (call_of frame result) h) (end_of self.new).streams }
+        ensures others { ReceivesOnly self.old self.new }
+    {
         match frame {
             Frame::Datagram(datagram) => self.receive_datagram(datagram),
             frame => match self.validate_direction(&frame) {
                 Err(error) => Err(ReceiveError::Transport(error)),
-                Ok(()) => self.endpoint.receive(frame, payload_len),
+                Ok(()) => {
+                    touch_by_frame(&mut self.users, &frame);
+                    self.endpoint.receive(frame, payload_len)
+                }
             },
         }
     }
@@ -265,6 +286,8 @@ impl Session {
         ensures keeps { KeepsDatagram (datagrams_view self.old) datagram result (datagrams_view self.new) }
         ensures end { end_of self.new ≡ end_of self.old }
         ensures others { ReceivesOnly self.old self.new }
+        ensures counts { counts_of self.new ≡ counts_of self.old }
+        ensures users { self.new.users ≡ self.old.users }
     {
         let was_empty = self.datagrams.received(datagram, &self.limits.receive)?;
         self.tell_received_if(was_empty);
@@ -276,6 +299,8 @@ impl Session {
         ensures told { datagrams_view self.new ≡ record (datagrams_view self.old) { told_received = self.old.told_received && not was_empty } }
         ensures end { end_of self.new ≡ end_of self.old }
         ensures others { ReceivesOnly self.old self.new }
+        ensures counts { counts_of self.new ≡ counts_of self.old }
+        ensures users { self.new.users ≡ self.old.users }
     {
         if was_empty {
             self.told_received = false;
@@ -293,14 +318,16 @@ fn data_length(frame: &Frame) -> usize
     }
 }
 
-// The answer for the payload. Where there was no memory to put pieces together, the frame was taken.
+// The result for the payload. A frame that could not be compacted for lack of memory is buffered and raised no event: it is to
+// be processed again.
 fn payload_answer(answer: &Result<ShouldTransmit, ReceiveError>) -> Result<(), PayloadError>
     ensures { result ≡ payload_answer answer.now }
 {
     match answer {
         Ok(_) => Ok(()),
         Err(ReceiveError::Transport(error)) => Err(PayloadError::Transport(*error)),
-        Err(ReceiveError::OutOfMemory) => Err(PayloadError::OutOfMemory),
-        Err(ReceiveError::CompactionMemory) => Ok(()),
+        Err(ReceiveError::OutOfMemory | ReceiveError::CompactionMemory) => {
+            Err(PayloadError::OutOfMemory)
+        }
     }
 }

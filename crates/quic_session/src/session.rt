@@ -14,17 +14,23 @@ ghost use Rattle.quic_limits.specs.Remote.{lacking, open_now};
 ghost use Rattle.quic_streams.specs.Waiting.{TellsEmpty};
 ghost use Rattle.quic_session.specs.Sessions.{end_of, beside_of, datagrams_view, no_datagrams};
 ghost use Rattle.quic_session.specs.Tokens.{unsettled};
+ghost use Rattle.quic_session.specs.Users.{users_view, no_users};
+ghost use Rattle.quic_session.specs.Counts.{counts_of, no_counts};
+ghost use Rattle.quic_session.specs.Closing.{touched_by_event};
 
+use crate::closing::touch_by_event;
+use crate::counts::Counts;
 use crate::lent_bytes::LentBytes;
 use crate::memory::{FrameMemory, pieces_within};
 use crate::unsettled::Unsettled;
+use crate::users::Users;
 use quic_assembler::Chunk;
 use quic_datagrams::{DatagramLimits, DatagramState};
 use quic_endpoint::Endpoint;
 use quic_streams::PendingFrames;
 use quic_streams::state::StreamsState;
 use quic_streams::streams::ConnState;
-use quic_values::{Bytes, Dir, OutOfMemory, Side, StreamId, VarInt};
+use quic_values::{Dir, OutOfMemory, Side, StreamId, VarInt};
 use quic_wire::{PieceMemory, StreamEvent};
 use std::alloc::Global;
 
@@ -53,12 +59,13 @@ pub struct Session {
     pub(crate) conn: ConnState,
     pub(crate) datagrams: DatagramState,
     pub(crate) limits: DatagramLimits,
-    // A datagram that was received, and was too long for the host's buffer.
-    pub(crate) waiting: Option<Bytes>,
     // Whether nothing is to be told of a received datagram, and of room for one to be sent.
     pub(crate) told_received: bool,
     pub(crate) told_room: bool,
     pub(crate) unsettled: Unsettled,
+    // The streams that the host was given, with its words.
+    pub(crate) users: Users,
+    pub(crate) counts: Box<Counts>,
     // The memory of the last payload that was written, of the list of chunks of the last read, of the frames of the last
     // payload that came, and of bytes that were read. It is used again.
     pub(crate) bytes: Vec<u8>,
@@ -81,6 +88,8 @@ impl Session {
         ensures datagrams { IfOk result (λ s. datagrams_view s ≡ no_datagrams config.now.datagrams) }
         ensures payloads { IfOk result (λ s. unsettled s.unsettled ≡ (λ token. None)) }
         ensures token { IfOk result (λ s. s.unsettled.next ≡ 1) }
+        ensures users { IfOk result (λ s. users_view s.users ≡ no_users) }
+        ensures counts { IfOk result (λ s. counts_of s ≡ no_counts) }
     {
         let endpoint = Endpoint::new(
             alloc,
@@ -91,15 +100,17 @@ impl Session {
             config.receive_window,
             config.stream_window,
         )?;
+        let counts = Box::new(alloc, Counts::new())?;
         Ok(Session {
             endpoint,
             conn: ConnState::Open,
             datagrams: DatagramState::new(alloc),
             limits: config.datagrams,
-            waiting: None,
             told_received: true,
             told_room: true,
             unsettled: Unsettled::new(alloc),
+            users: Users::new(),
+            counts,
             bytes: Vec::new(alloc),
             chunks: Vec::new(alloc),
             frames: FrameMemory::new(),
@@ -114,6 +125,7 @@ impl Session {
         ensures window { end_of self.new ≡ with_world (end_of self.old) (with_out (end_of self.old).streams (record (end_of self.old).streams.out { budget = with_window (end_of self.old).streams.out.budget window })) }
         ensures from { (m : Made) (h : List Event) → From m h (end_of self.old).streams → From m (Sending (SetWindow window) ∷ h) (end_of self.new).streams }
         ensures beside { beside_of self.new ≡ beside_of self.old }
+        ensures users { self.new.users ≡ self.old.users }
     {
         self.endpoint.set_send_window(window);
     }
@@ -125,6 +137,7 @@ impl Session {
         ensures larger { result ≡ nat_lt (end_of self.old).streams.credit.receive_window window }
         ensures from { (m : Made) (h : List Event) → From m h (end_of self.old).streams → From m (Resized window result ∷ h) (end_of self.new).streams }
         ensures beside { beside_of self.new ≡ beside_of self.old }
+        ensures users { self.new.users ≡ self.old.users }
     {
         let larger = self.endpoint.set_receive_window(window);
         self.pieces.set_most(pieces_within(window));
@@ -138,6 +151,7 @@ impl Session {
         ensures unneeded { lacking (remote_of (end_of self.old).streams dir) count ≡ 0 → IsOk result }
         ensures from { (m : Made) (h : List Event) → From m h (end_of self.old).streams → From m (SetConcurrent dir count result ∷ h) (end_of self.new).streams }
         ensures beside { beside_of self.new ≡ beside_of self.old }
+        ensures users { self.new.users ≡ self.old.users }
     {
         self.endpoint.set_max_concurrent(dir, count)
     }
@@ -146,6 +160,7 @@ impl Session {
     pub fn close(&mut self)
         ensures same { end_of self.new ≡ end_of self.old }
         ensures beside { beside_of self.new ≡ record (beside_of self.old) { conn = ConnState.Closed } }
+        ensures users { self.new.users ≡ self.old.users }
     {
         self.conn = ConnState::Closed;
     }
@@ -156,8 +171,11 @@ impl Session {
         ensures pending { (end_of self.new).pending ≡ (end_of self.old).pending }
         ensures from { (m : Made) (h : List Event) → From m h (end_of self.old).streams → From m (Sending (Polled result) ∷ h) (end_of self.new).streams }
         ensures beside { beside_of self.new ≡ beside_of self.old }
+        ensures users { users_view self.new.users ≡ touched_by_event result (users_view self.old.users) }
     {
-        self.endpoint.poll()
+        let told = self.endpoint.poll();
+        touch_by_event(&mut self.users, &told);
+        told
     }
 
     /// The state of the streams.
@@ -175,14 +193,17 @@ impl Session {
     }
 
     /// How many streams exist: those that the peer has open, bidirectional and unidirectional, and those with send state.
-    pub fn stream_counts(&mut self) -> (u64, u64, usize)
-        ensures bi { result.0 ≡ open_now (end_of self.old).streams.bi }
-        ensures uni { result.1 ≡ open_now (end_of self.old).streams.uni }
-        ensures send { result.2 ≡ (end_of self.old).streams.send_streams }
-        ensures same { end_of self.new ≡ end_of self.old }
-        ensures beside { beside_of self.new ≡ beside_of self.old }
+    pub fn stream_counts(&self) -> (u64, u64, usize)
+        ensures bi { result.0 ≡ open_now (end_of self.now).streams.bi }
+        ensures uni { result.1 ≡ open_now (end_of self.now).streams.uni }
+        ensures send { result.2 ≡ (end_of self.now).streams.send_streams }
     {
-        self.endpoint.stream_counts()
+        let streams = self.endpoint.streams();
+        (
+            streams.remote_open_streams(Dir::Bi),
+            streams.remote_open_streams(Dir::Uni),
+            streams.send_streams(),
+        )
     }
 
     // Whether the application was given a stream.

@@ -20,6 +20,7 @@ pub struct Unsettled {
     held: usize,
     // The token of the next payload.
     next: u64,
+    ghost begun: { 0 < first },
     ghost counted: { held ≡ sum_by held_at places.items },
     ghost in_turn: { (first ≤ next) × (next ≡ min (first + length places.items) (2 ^ 64 - 1)) },
 }

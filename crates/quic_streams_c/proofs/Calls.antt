@@ -14,12 +14,12 @@ number-given {A = A} x n Refused Does e d = let P : Option A → Type 0 = λ m. 
 
 -- a closed handle is opened, or stays closed
 pub opens : (words : List ℕ) (old : Option Session) (code : ℤ) (new : Option Session) → (IsSome old → ⊥)
-    → WithKnown 8 words ((code ≡ negsuc 2) × (new ≡ None)) (OpensClosed (config_at words) code new) → OpensHandle words old code new
+    → WithKnown 9 words ((code ≡ negsuc 2) × (new ≡ None)) (OpensClosed (config_at words) code new) → OpensHandle words old code new
 opens words None code new closed opened = opened
 opens words (Some x) code new closed opened = absurd (closed refl)
 
 -- a closed handle stays closed
 pub stays : (words : List ℕ) (old : Option Session) (code : ℤ) → (IsSome old → ⊥)
-    → ((new : Option Session) → new ≡ None → WithKnown 8 words ((code ≡ negsuc 2) × (new ≡ None)) (OpensClosed (config_at words) code new)) → OpensHandle words old code old
+    → ((new : Option Session) → new ≡ None → WithKnown 9 words ((code ≡ negsuc 2) × (new ≡ None)) (OpensClosed (config_at words) code new)) → OpensHandle words old code old
 stays words None code closed opened = opened None refl
 stays words (Some x) code closed opened = absurd (closed refl)

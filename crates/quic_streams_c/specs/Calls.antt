@@ -12,6 +12,12 @@ abbrev pub Calls : Option Session → ℤ → Option Session → Type 0 → (Ses
 Calls None code new Keeps Does = (code ≡ negsuc 0) × (new ≡ None) × Keeps
 Calls (Some s) code new Keeps Does = StaysOpen Does s new
 
+-- a question: on a closed handle the answer is QS_ERR_CLOSED and nothing is written; on an open one it is that of the session, of
+-- which nothing changes
+abbrev pub Questions : Option Session → ℤ → Option Session → Type 0 → (Session → Type 0) → Type 0
+Questions None code new Keeps Tells = (code ≡ negsuc 0) × (new ≡ None) × Keeps
+Questions (Some s) code new Keeps Tells = (new ≡ Some s) × Tells s
+
 -- an argument is refused with QS_ERR_ARGUMENT, and nothing changes
 abbrev pub Refuses : Session → ℤ → Session → Type 0
 Refuses s code t = (code ≡ negsuc 2) × (t ≡ s)

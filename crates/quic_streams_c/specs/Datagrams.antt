@@ -4,10 +4,9 @@ use Rattle.quic_datagrams.specs.Queue.{total_cost, with_newest}
 use Rattle.quic_datagrams.specs.Sending.{send_refusal}
 use Rattle.quic_session.specs.declared.session.Session.{Session}
 use Rattle.quic_session.specs.declared.datagrams.DatagramError.{DatagramError}
-use Rattle.quic_session.specs.Sessions.{end_of, datagrams_view, beside_of, with_datagrams, with_oldest_out, with_max}
+use Rattle.quic_session.specs.Sessions.{end_of, datagrams_view, beside_of, with_datagrams, oldest_received, without_oldest, with_max}
 use Rattle.quic_session.specs.Datagrams.{IsRefusedAs, after_error}
 use Rattle.quic_streams_c.specs.Answers.{TellsDone, datagram_code, TellsOption}
-use Rattle.quic_streams_c.specs.Sessions.{Unchanged}
 use Rattle.quic_streams_c.specs.Numbers.{length_at}
 
 -- qs_datagram_send
@@ -23,25 +22,24 @@ pub record QueuesRaw (s : Session) (content : List ℕ) (drop_oldest : ℕ) (cod
 
 -- the oldest datagram is taken, unless it is longer than the buffer: then its length alone is told
 abbrev pub TakesOldestDatagram : Session → Option (List ℕ) → List ℕ → ℤ → Session → List ℕ → ℕ → ℕ → Type 0
-TakesOldestDatagram s None out code t new was now = (code ≡ pos 1) × (new ≡ out) × (now ≡ was) × (beside_of t ≡ with_datagrams (beside_of s) (with_oldest_out (datagrams_view s)))
+TakesOldestDatagram s None out code t new was now = (code ≡ pos 1) × (new ≡ out) × (now ≡ was) × (beside_of t ≡ beside_of s)
 TakesOldestDatagram s (Some bytes) out code t new was now = (now ≡ length bytes) × Copies (nat_lt (length out) (length bytes))
   where
     Copies : Bool → Type 0
-    Copies true = (code ≡ negsuc 14) × (new ≡ out) × (beside_of t ≡ with_datagrams (beside_of s) (with_oldest_out (datagrams_view s)))
-    Copies false = (code ≡ pos 0) × (new ≡ bytes ++ drop (length bytes) out)
-        × (beside_of t ≡ with_datagrams (beside_of s) (record (with_oldest_out (datagrams_view s)) { waiting = None }))
+    Copies true = (code ≡ negsuc 14) × (new ≡ out) × (beside_of t ≡ beside_of s)
+    Copies false = (code ≡ pos 0) × (new ≡ bytes ++ drop (length bytes) out) × (beside_of t ≡ with_datagrams (beside_of s) (without_oldest (datagrams_view s)))
 
 -- qs_datagram_recv
 abbrev pub TakesRaw : Session → List ℕ → ℤ → Session → List ℕ → ℕ → ℕ → Type 0
-TakesRaw s out code t new was now = (end_of t ≡ end_of s) × TakesOldestDatagram s (with_oldest_out (datagrams_view s)).waiting out code t new was now
+TakesRaw s out code t new was now = (end_of t ≡ end_of s) × TakesOldestDatagram s (oldest_received s.datagrams.incoming) out code t new was now
 
 -- qs_datagram_max_size
-abbrev pub TellsMax : Session → ℤ → Session → ℕ → ℕ → Type 0
-TellsMax s code t was now = (t ≡ s) × TellsOption s.limits.max (negsuc 12) code was now
+abbrev pub TellsMax : Session → ℤ → ℕ → ℕ → Type 0
+TellsMax s code was now = TellsOption s.limits.max (negsuc 12) code was now
 
 -- qs_datagram_send_space
-abbrev pub TellsSpace : Session → ℤ → Session → ℕ → Type 0
-TellsSpace s code t now = (code ≡ pos 0) × (now ≡ s.limits.send - total_cost s.datagrams.outgoing - 32) × Unchanged s t
+abbrev pub TellsSpace : Session → ℤ → ℕ → Type 0
+TellsSpace s code now = (code ≡ pos 0) × (now ≡ s.limits.send - total_cost s.datagrams.outgoing - 32)
 
 -- qs_datagram_set_max_size
 abbrev pub SetsMax : Session → ℕ → ℤ → Session → Type 0

@@ -31,7 +31,7 @@ pub record IsTold (code : ℕ) (reason : List ℕ) (error : RawError) : Type 0 w
 -- what C is told of a frame
 abbrev pub TellsTaken : Result ShouldTransmit ReceiveError → ℤ → RawError → RawError → Type 0
 TellsTaken (Ok transmit) code was now = (code ≡ pos 0) × (now ≡ was)
-TellsTaken (Err receive_error.CompactionMemory) code was now = (code ≡ pos 0) × (now ≡ was)
+TellsTaken (Err receive_error.CompactionMemory) code was now = (code ≡ negsuc 1) × (now ≡ was)
 TellsTaken (Err receive_error.OutOfMemory) code was now = (code ≡ negsuc 1) × (now ≡ was)
 TellsTaken (Err (receive_error.Transport error)) code was now = (code ≡ negsuc 9) × IsTold error.code error.reason.now now
 

@@ -72,15 +72,15 @@ abbrev pub SessionTellsReset : Session → ℕ → Result (Option ℕ) HandleErr
 SessionTellsReset s id answer t = OnStream s id answer handle_error.ClosedStream (TellsResetAt (end_of s) id answer (end_of t)) (ToldReset id answer) t
 
 -- the priority of a stream is told
-abbrev pub SessionTellsPriority : Session → ℕ → Result ℤ ClosedStream → Session → Type 0
-SessionTellsPriority s id answer t = (was_given (end_of s).streams id ≡ true → answer ≡ told_of_half (λ h. h.priority) ((end_of s).streams.out.halves id))
-    × (was_given (end_of s).streams id ≡ false → answer ≡ Err (record {})) × (end_of t ≡ end_of s) × (beside_of t ≡ beside_of s)
+abbrev pub SessionTellsPriority : Session → ℕ → Result ℤ ClosedStream → Type 0
+SessionTellsPriority s id answer = (was_given (end_of s).streams id ≡ true → answer ≡ told_of_half (λ h. h.priority) ((end_of s).streams.out.halves id))
+    × (was_given (end_of s).streams id ≡ false → answer ≡ Err (record {}))
 
 -- the code of the peer's STOP_SENDING for a stream, as qs_stream_stopped returns it
 abbrev pub stop_code_of : Session → ℕ → Result (Option ℕ) ClosedStream
 stop_code_of s id = if was_given (end_of s).streams id then told_of_half (λ h. h.stop_reason) ((end_of s).streams.out.halves id) else Err (record {})
 
 -- the code with which the peer stopped one
-abbrev pub SessionTellsStop : Session → ℕ → Result (Option ℕ) ClosedStream → Session → Type 0
-SessionTellsStop s id answer t = (was_given (end_of s).streams id ≡ true → answer ≡ told_of_half (λ h. h.stop_reason) ((end_of s).streams.out.halves id))
-    × (was_given (end_of s).streams id ≡ false → answer ≡ Err (record {})) × (end_of t ≡ end_of s) × (beside_of t ≡ beside_of s)
+abbrev pub SessionTellsStop : Session → ℕ → Result (Option ℕ) ClosedStream → Type 0
+SessionTellsStop s id answer = (was_given (end_of s).streams id ≡ true → answer ≡ told_of_half (λ h. h.stop_reason) ((end_of s).streams.out.halves id))
+    × (was_given (end_of s).streams id ≡ false → answer ≡ Err (record {}))

@@ -1,5 +1,5 @@
 -- What C sets of a session, and asks of it.
-use Rattle.std.specs.Prelude.{ℕ, ℤ, Bool, false, pos, negsuc, ◌≡◌, ◌⊎◌, ◌==◌, ◌^◌, ◌<◌, ◌≤◌, not, nat_lt, is_some, if◌then◌else◌, List, [], ◌∷◌, length, slice_index, Option, Some, None, IsOk, OnErr, Result, Ok, Err}
+use Rattle.std.specs.Prelude.{ℕ, ℤ, Bool, true, false, pos, negsuc, ◌≡◌, ◌⊎◌, ◌==◌, ◌^◌, ◌<◌, ◌≤◌, not, nat_lt, is_some, if◌then◌else◌, List, [], ◌∷◌, length, slice_index, Option, Some, None, IsOk, OnErr, Result, Ok, Err}
 use Rattle.std.specs.List.{list_any}
 use Rattle.quic_values.specs.declared.memory.OutOfMemory.{OutOfMemory}
 use Rattle.quic_values.specs.declared.ids.Side.{Side}
@@ -13,7 +13,7 @@ use Rattle.quic_limits.specs.SendingCredit.{with_window, writable}
 use Rattle.quic_limits.specs.Remote.{open_now}
 use Rattle.quic_retransmits.specs.Pending.{nothing}
 use Rattle.quic_history.specs.World.{Made, made_with, start}
-use Rattle.quic_history.specs.Early.{IsEarly, with_rejection, SendsAgain}
+use Rattle.quic_history.specs.Early.{IsEarly, with_rejection, SendsAgain, ResendsOnlyUnacked}
 use Rattle.quic_history.specs.History.{Event, Sending, Resized, SetConcurrent, Rejected, SentAgain, IsUnanswered, From}
 use Rattle.quic_history.specs.SendEvents.{GaveLimits, SetWindow}
 use Rattle.quic_history.specs.Sends.{with_out, with_params_given}
@@ -24,8 +24,10 @@ use Rattle.quic_session.specs.declared.session.Session.{Session}
 use Rattle.quic_session.specs.declared.session.Config.{Config}
 use Rattle.quic_session.specs.Params.{are_stream_limits}
 use Rattle.quic_session.specs.Sessions.{end_of, datagrams_view, beside_of, with_datagrams, no_datagrams, with_max}
+use Rattle.quic_session.specs.Counts.{counts_of, no_counts}
 use Rattle.quic_session.specs.Tokens.{unsettled, payload_count}
 use Rattle.quic_session.specs.Settling.{SettlesOnly}
+use Rattle.quic_session.specs.Users.{UsersView, users_view, no_users}
 use Rattle.quic_streams_c.specs.declared.connection.RawConfig.{RawConfig}
 use Rattle.quic_streams_c.specs.declared.connection.RawLimits.{RawLimits}
 use Rattle.quic_streams_c.specs.declared.connection.RawInfo.{RawInfo}
@@ -50,6 +52,7 @@ config_at words = record {
   stream_window = slice_index words 5;
   datagram_receive = slice_index words 6;
   datagram_send = slice_index words 7;
+  track_streams = slice_index words 8;
 }
 
 -- a configuration has no number that is too large
@@ -59,6 +62,7 @@ pub record IsConfig (c : RawConfig) : Type 0 where
   pub bi : c.max_remote_bi ≤ 2 ^ 60
   pub receive_window : c.receive_window < 2 ^ 62
   pub stream_window : c.stream_window < 2 ^ 62
+  pub track_streams : c.track_streams < 2
 
 -- what is permitted of its datagrams
 abbrev pub raw_limits : RawConfig → DatagramLimits
@@ -79,21 +83,31 @@ IsConfigOf r c = (c ≡ record {
 abbrev pub made_by : Config → Made
 made_by c = made_with c.side c.max_remote_uni c.max_remote_bi c.send_window c.receive_window c.stream_window
 
--- a new session of a configuration
-pub record IsNewOf (c : Config) (s : Session) : Type 0 where
+-- whether its streams are tracked
+abbrev pub is_tracked : RawConfig → Bool
+is_tracked r = r.track_streams == 1
+
+abbrev pub with_tracking : Bool → UsersView → UsersView
+with_tracking false u = u
+with_tracking true u = record u { tracks = true }
+
+-- a new session of a configuration, whose streams are tracked or not
+pub record IsNewOf (c : Config) (tracks : Bool) (s : Session) : Type 0 where
   pub end : end_of s ≡ record { streams = start (made_by c); pending = nothing }
   pub from : From (made_by c) [] (end_of s).streams
   pub conn : s.conn ≡ conn_state.Open
   pub datagrams : datagrams_view s ≡ no_datagrams c.datagrams
   pub payloads : unsettled s.unsettled ≡ (λ token. None)
   pub token : s.unsettled.next ≡ 1
+  pub users : users_view s.users ≡ with_tracking tracks no_users
+  pub counts : counts_of s ≡ no_counts
 
 -- a session is made, unless a number is above its bound or memory runs out
 pub record MakesNew (r : RawConfig) (code : ℤ) (new : Option Session) : Type 0 where
   pub good : IsConfig r
   pub config : Config
   pub is : IsConfigOf r config
-  pub made : ((code ≡ negsuc 1) × (new ≡ None)) ⊎ ((code ≡ pos 0) × ((s : Session) × (new ≡ Some s) × IsNewOf config s))
+  pub made : ((code ≡ negsuc 1) × (new ≡ None)) ⊎ ((code ≡ pos 0) × ((s : Session) × (new ≡ Some s) × IsNewOf config (is_tracked r) s))
 
 -- a closed handle is opened, or stays closed
 abbrev pub OpensClosed : RawConfig → ℤ → Option Session → Type 0
@@ -102,7 +116,7 @@ OpensClosed r code new = ((code ≡ negsuc 2) × (new ≡ None) × (IsConfig r �
 -- qs_conn_open: an open handle stays as it is
 abbrev pub OpensHandle : List ℕ → Option Session → ℤ → Option Session → Type 0
 OpensHandle words (Some s) code new = (code ≡ negsuc 3) × (new ≡ Some s)
-OpensHandle words None code new = WithKnown 8 words ((code ≡ negsuc 2) × (new ≡ None)) (OpensClosed (config_at words) code new)
+OpensHandle words None code new = WithKnown 9 words ((code ≡ negsuc 2) × (new ≡ None)) (OpensClosed (config_at words) code new)
 
 -- the words of qs_peer_limits
 abbrev pub limits_at : List ℕ → RawLimits
@@ -159,7 +173,7 @@ pub record RefusesLimits (s : Session) (r : RawLimits) (code : ℤ) (t : Session
 -- limits are set, if they can be
 abbrev pub SetsLimits : Session → RawLimits → ℤ → Session → Type 0
 SetsLimits s r code t = (Refuses s code t × ((AreLimits r) → ⊥))
-    ⊎ (AreLimits r × (answer : Result (Unit {0}) OutOfMemory) × TakesLimitsOrNone s r answer t × IsFreeOf s answer × TellsDone memory_code answer code)
+    ⊎ (AreLimits r × (are_stream_limits (peer_limits r) ≡ true) × (answer : Result (Unit {0}) OutOfMemory) × TakesLimitsOrNone s r answer t × IsFreeOf s answer × TellsDone memory_code answer code)
     ⊎ (AreLimits r × RefusesLimits s r code t)
 
 -- qs_set_peer_limits
@@ -177,12 +191,14 @@ pub record Rejects (s : Session) (code : ℤ) (t : Session) : Type 0 where
   pub from : (m : Made) (h : List Event) → IsEarly (end_of s).streams → From m h (end_of s).streams → From m (Rejected ∷ h) (end_of t).streams
   pub unanswered : (m : Made) (h : List Event) → m.side ≡ Client → IsUnanswered h → From m h (end_of s).streams → From m (Rejected ∷ h) (end_of t).streams
   pub payloads : unsettled t.unsettled ≡ (λ token. None)
+  pub counts : counts_of t ≡ counts_of s
   pub others : SettlesOnly s t
 
 -- qs_retransmit_all_for_0rtt
 pub record SendsEarlyAgain (s : Session) (code : ℤ) (t : Session) : Type 0 where
   pub answer : Result (Unit {0}) OutOfMemory
   pub sends : NoneAcked (end_of s).streams.out.side (end_of s).streams.out.halves → SendsAgain (end_of s).streams answer (end_of t).streams
+  pub unacked : ResendsOnlyUnacked (end_of s).streams (end_of t).streams
   pub unanswered : (m : Made) (h : List Event) → IsUnanswered h → From m h (end_of s).streams → SendsAgain (end_of s).streams answer (end_of t).streams × From m (SentAgain answer ∷ h) (end_of t).streams
   pub refused : OnErr answer (end_of t ≡ end_of s)
   pub pending : (end_of t).pending ≡ (end_of s).pending
@@ -233,8 +249,8 @@ info_words i = i.max_concurrent_bidi ∷ i.max_concurrent_uni ∷ i.max_remote_b
     ∷ i.can_send_stream_data ∷ i.has_pending ∷ []
 
 -- qs_get_info
-abbrev pub TellsInfo : Session → ℤ → Session → List ℕ → List ℕ → Type 0
-TellsInfo s code t was now = (code ≡ pos 0) × Unchanged s t × ((i : RawInfo) × IsInfo s i × (now ≡ words_filled (info_words i) was))
+abbrev pub TellsInfo : Session → ℤ → List ℕ → List ℕ → Type 0
+TellsInfo s code was now = (code ≡ pos 0) × ((i : RawInfo) × IsInfo s i × (now ≡ words_filled (info_words i) was))
 
 -- what C is told of what waits to be sent
 pub record IsDue (s : Session) (d : RawDue) : Type 0 where
@@ -247,5 +263,5 @@ abbrev pub due_words : RawDue → List ℕ
 due_words d = d.control ∷ d.datagrams ∷ d.streams ∷ []
 
 -- qs_get_due
-abbrev pub TellsDue : Session → ℤ → Session → List ℕ → List ℕ → Type 0
-TellsDue s code t was now = (code ≡ pos 0) × Unchanged s t × ((d : RawDue) × IsDue s d × (now ≡ words_filled (due_words d) was))
+abbrev pub TellsDue : Session → ℤ → List ℕ → List ℕ → Type 0
+TellsDue s code was now = (code ≡ pos 0) × ((d : RawDue) × IsDue s d × (now ≡ words_filled (due_words d) was))

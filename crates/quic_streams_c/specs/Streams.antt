@@ -1,5 +1,5 @@
 -- Calls of C on streams.
-use Rattle.std.specs.Prelude.{ℕ, ℤ, Bool, true, false, pos, negsuc, ◌≡◌, ◌==◌, List, length, Option, Result}
+use Rattle.std.specs.Prelude.{ℕ, ℤ, Bool, true, false, pos, negsuc, ◌≡◌, ◌⊎◌, ◌==◌, List, length, Option, Result}
 use Rattle.quic_values.specs.declared.memory.OutOfMemory.{OutOfMemory}
 use Rattle.quic_sending.specs.declared.send.WriteError.{WriteError}
 use Rattle.quic_sending.specs.declared.send.FinishError.{FinishError}
@@ -10,20 +10,26 @@ use Rattle.quic_session.specs.declared.session.Session.{Session}
 use Rattle.quic_session.specs.declared.application.ReadInto.{ReadInto}
 use Rattle.quic_session.specs.Sessions.{beside_of}
 use Rattle.quic_session.specs.Reading.{ReadsInto, ReadsManyInto}
+use Rattle.quic_session.specs.Users.{users_view, with_room}
+use Rattle.quic_session.specs.Closing.{with_opened_stream, with_given_stream}
 use Rattle.quic_streams_c.specs.Answers.{memory_code, handle_code, closed_code, TellsDone, TellsSigned, TellsSome, TellsOption, stopped_first, TellsWrite, TellsFinish, TellsRead, TellsMany}
 use Rattle.quic_streams_c.specs.Calls.{Refuses, WithNumber}
 use Rattle.quic_streams_c.specs.Numbers.{small, dir_at}
-use Rattle.quic_streams_c.specs.Sessions.{SessionOpens, SessionAccepts, SessionWrites, SessionFinishes, SessionResets, SessionStops, SessionSetsPriority, SessionTellsPriority, stop_code_of, SessionTellsStop, SessionTellsReset}
+use Rattle.quic_streams_c.specs.Sessions.{Unchanged, SessionOpens, SessionAccepts, SessionWrites, SessionFinishes, SessionResets, SessionStops, SessionSetsPriority, SessionTellsPriority, stop_code_of, SessionTellsStop, SessionTellsReset}
+
+-- there is no memory for what is kept of a stream until it is over
+abbrev pub LacksRoom : Session → ℤ → Session → Type 0
+LacksRoom s code t = (code ≡ negsuc 1) × Unchanged s t × (users_view t.users ≡ users_view s.users)
 
 -- qs_stream_open
 abbrev pub OpensRaw : Session → ℕ → ℤ → Session → ℕ → ℕ → Type 0
-OpensRaw s dir code t was now = WithNumber (dir_at dir) (Refuses s code t × (now ≡ was)) (λ d.
-    (answer : Result (Option ℕ) OutOfMemory) × SessionOpens s d answer t × TellsSome memory_code answer code was now)
+OpensRaw s dir code t was now = WithNumber (dir_at dir) (Refuses s code t × (now ≡ was)) (λ d. (LacksRoom s code t × (now ≡ was))
+    ⊎ ((answer : Result (Option ℕ) OutOfMemory) × SessionOpens s d answer t × TellsSome memory_code answer code was now × (users_view t.users ≡ with_opened_stream answer (with_room (users_view s.users)))))
 
 -- qs_stream_accept
 abbrev pub AcceptsRaw : Session → ℕ → ℤ → Session → ℕ → ℕ → Type 0
-AcceptsRaw s dir code t was now = WithNumber (dir_at dir) (Refuses s code t × (now ≡ was)) (λ d.
-    (answer : Option ℕ) × SessionAccepts s d answer t × TellsOption answer (pos 1) code was now)
+AcceptsRaw s dir code t was now = WithNumber (dir_at dir) (Refuses s code t × (now ≡ was)) (λ d. (LacksRoom s code t × (now ≡ was))
+    ⊎ ((answer : Option ℕ) × SessionAccepts s d answer t × TellsOption answer (pos 1) code was now × (users_view t.users ≡ with_given_stream answer (with_room (users_view s.users)))))
 
 -- qs_stream_write: the session's write, and where that is blocked, the peer's STOP_SENDING comes before it. No credit lets more
 -- be written on a stopped stream, so the host has to learn of the stop also while there is no credit
@@ -52,14 +58,14 @@ SetsPriorityRaw s id priority code t = WithNumber (small id) (Refuses s code t) 
     (answer : Result (Unit {0}) HandleError) × SessionSetsPriority s i priority answer t × TellsDone handle_code answer code)
 
 -- qs_stream_priority
-abbrev pub TellsPriorityRaw : Session → ℕ → ℤ → Session → ℤ → ℤ → Type 0
-TellsPriorityRaw s id code t was now = WithNumber (small id) (Refuses s code t × (now ≡ was)) (λ i.
-    (answer : Result ℤ ClosedStream) × SessionTellsPriority s i answer t × TellsSigned closed_code answer code was now)
+abbrev pub TellsPriorityRaw : Session → ℕ → ℤ → ℤ → ℤ → Type 0
+TellsPriorityRaw s id code was now = WithNumber (small id) ((code ≡ negsuc 2) × (now ≡ was)) (λ i.
+    (answer : Result ℤ ClosedStream) × SessionTellsPriority s i answer × TellsSigned closed_code answer code was now)
 
 -- qs_stream_stopped
-abbrev pub TellsStopRaw : Session → ℕ → ℤ → Session → ℕ → ℕ → Type 0
-TellsStopRaw s id code t was now = WithNumber (small id) (Refuses s code t × (now ≡ was)) (λ i.
-    (answer : Result (Option ℕ) ClosedStream) × SessionTellsStop s i answer t × TellsSome closed_code answer code was now)
+abbrev pub TellsStopRaw : Session → ℕ → ℤ → ℕ → ℕ → Type 0
+TellsStopRaw s id code was now = WithNumber (small id) ((code ≡ negsuc 2) × (now ≡ was)) (λ i.
+    (answer : Result (Option ℕ) ClosedStream) × SessionTellsStop s i answer × TellsSome closed_code answer code was now)
 
 -- qs_stream_received_reset
 abbrev pub TellsResetRaw : Session → ℕ → ℤ → Session → ℕ → ℕ → Type 0

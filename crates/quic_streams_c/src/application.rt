@@ -2,8 +2,8 @@
 
 ghost use Rattle.std.specs.Prelude.{◌≡◌, pos, true, false};
 ghost use Rattle.quic_streams_c.specs.Answers.{memory_code, handle_code, closed_code, TellsDone, TellsSigned, TellsSome, TellsOption, stopped_first, TellsWrite, TellsFinish, TellsRead};
-ghost use Rattle.quic_streams_c.specs.Calls.{Calls};
-ghost use Rattle.quic_streams_c.specs.Sessions.{stop_code_of, Unchanged};
+ghost use Rattle.quic_streams_c.specs.Calls.{Calls, Questions};
+ghost use Rattle.quic_streams_c.specs.Sessions.{stop_code_of};
 ghost use Rattle.quic_streams_c.specs.Streams.{OpensRaw, AcceptsRaw, WritesRaw, FinishesRaw, ResetsRaw, StopsRaw, SetsPriorityRaw, TellsPriorityRaw, TellsStopRaw, TellsResetRaw, ReadsRaw};
 
 use crate::codes::{
@@ -40,6 +40,9 @@ fn open(session: &mut Session, dir: u32, id: &mut u64) -> i32
     let Some(dir) = dir_of(dir) else {
         return ARGUMENT;
     };
+    if session.reserve_stream().is_err() {
+        return NO_MEMORY;
+    }
     tell_opened(&session.open(dir), id)
 }
 
@@ -84,6 +87,9 @@ fn accept(session: &mut Session, dir: u32, id: &mut u64) -> i32
     let Some(dir) = dir_of(dir) else {
         return ARGUMENT;
     };
+    if session.reserve_stream().is_err() {
+        return NO_MEMORY;
+    }
     tell_accepted(session.accept(dir), id)
 }
 
@@ -140,13 +146,12 @@ fn write(
 }
 
 // The result of a write: Stopped instead of Blocked if the peer sent STOP_SENDING for the stream.
-fn stopped_first(
-    session: &mut Session,
+pub(crate) fn stopped_first(
+    session: &Session,
     id: StreamId,
     answer: Result<usize, WriteError>,
 ) -> Result<usize, WriteError>
-    ensures answer { result ≡ stopped_first answer (stop_code_of session.old id) }
-    ensures same { Unchanged session.old session.new }
+    ensures { result ≡ stopped_first answer (stop_code_of session.now id) }
 {
     if !matches!(answer, Err(WriteError::Blocked)) {
         return answer;
@@ -201,7 +206,7 @@ fn finish(session: &mut Session, id: u64, app_code: &mut u64) -> i32
 }
 
 // That a stream was ended, or why not.
-fn tell_finish(answer: &Result<(), FinishError>, app_code: &mut u64) -> i32
+pub(crate) fn tell_finish(answer: &Result<(), FinishError>, app_code: &mut u64) -> i32
     ensures { TellsFinish answer.now result app_code.old app_code.new }
 {
     match answer {
@@ -267,7 +272,7 @@ fn stop(session: &mut Session, id: u64, app_code: u64) -> i32
 }
 
 // That a call on a stream was done, or why not.
-fn tell_handled(answer: &Result<(), HandleError>) -> i32
+pub(crate) fn tell_handled(answer: &Result<(), HandleError>) -> i32
     ensures { TellsDone handle_code answer.now result }
 {
     match answer {
@@ -314,12 +319,12 @@ pub extern "C" fn qs_stream_priority(
     id: u64,
     priority: &mut i32,
 ) -> i32
-    ensures { Calls handle.old.slot.value result handle.new.slot.value (priority.new ≡ priority.old) (λ s t. TellsPriorityRaw s id result t priority.old priority.new) }
+    ensures { Questions handle.old.slot.value result handle.new.slot.value (priority.new ≡ priority.old) (λ s. TellsPriorityRaw s id result priority.old priority.new) }
 {
     match take_out(alloc, handle) {
         None => CLOSED,
-        Some(mut session) => {
-            let code = tell_priority(&mut session, id, priority);
+        Some(session) => {
+            let code = tell_priority(&session, id, priority);
             *handle = holding(session);
             code
         }
@@ -327,8 +332,8 @@ pub extern "C" fn qs_stream_priority(
 }
 
 // The same, of a session.
-fn tell_priority(session: &mut Session, id: u64, priority: &mut i32) -> i32
-    ensures { TellsPriorityRaw session.old id result session.new priority.old priority.new }
+fn tell_priority(session: &Session, id: u64, priority: &mut i32) -> i32
+    ensures { TellsPriorityRaw session.now id result priority.old priority.new }
 {
     let Some(id) = stream_of(id) else {
         return ARGUMENT;
@@ -357,12 +362,12 @@ pub extern "C" fn qs_stream_stopped(
     id: u64,
     app_code: &mut u64,
 ) -> i32
-    ensures { Calls handle.old.slot.value result handle.new.slot.value (app_code.new ≡ app_code.old) (λ s t. TellsStopRaw s id result t app_code.old app_code.new) }
+    ensures { Questions handle.old.slot.value result handle.new.slot.value (app_code.new ≡ app_code.old) (λ s. TellsStopRaw s id result app_code.old app_code.new) }
 {
     match take_out(alloc, handle) {
         None => CLOSED,
-        Some(mut session) => {
-            let code = tell_stop(&mut session, id, app_code);
+        Some(session) => {
+            let code = tell_stop(&session, id, app_code);
             *handle = holding(session);
             code
         }
@@ -370,8 +375,8 @@ pub extern "C" fn qs_stream_stopped(
 }
 
 // The same, of a session.
-fn tell_stop(session: &mut Session, id: u64, app_code: &mut u64) -> i32
-    ensures { TellsStopRaw session.old id result session.new app_code.old app_code.new }
+fn tell_stop(session: &Session, id: u64, app_code: &mut u64) -> i32
+    ensures { TellsStopRaw session.now id result app_code.old app_code.new }
 {
     let Some(id) = stream_of(id) else {
         return ARGUMENT;

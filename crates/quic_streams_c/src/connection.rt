@@ -1,29 +1,23 @@
-//! A session is made, set and closed, and tells its events.
+//! A session is made, set and closed.
 
-ghost use Rattle.std.specs.Prelude.{◌≡◌, ◌≤◌, ◌^◌, IfOk, MatchOption};
+ghost use Rattle.std.specs.Prelude.{◌≡◌, ◌≤◌, ◌^◌, IfOk, OnOk, MatchOption};
 ghost use Rattle.std.specs.declared.option.Option.TheVariants.{None};
-ghost use Rattle.quic_streams_c.specs.Sessions.{Unchanged};
+ghost use Rattle.quic_session.specs.Sessions.{end_of, beside_of};
+ghost use Rattle.quic_session.specs.Users.{users_view};
 ghost use Rattle.quic_streams_c.specs.Answers.{TellsDone, memory_code};
-ghost use Rattle.quic_streams_c.specs.Calls.{Calls};
+ghost use Rattle.quic_streams_c.specs.Calls.{Calls, Questions};
 ghost use Rattle.quic_streams_c.specs.Words.{AreZeroFrom};
-ghost use Rattle.quic_streams_c.specs.Events.{raw_event, event_at, TellsEvent, TellsRaw, PollsRaw};
-ghost use Rattle.quic_streams_c.specs.Settings.{side_at, raw_limits, config_at, IsConfig, IsConfigOf, IsNewOf, OpensHandle, limits_at, AreLimits, peer_limits, SetsLimits, SetsLimitsRaw, Closes, Rejects, SendsEarlyAgain, SetsSendWindowRaw, SetsReceiveWindowRaw, SetsConcurrentRaw, flag, IsInfo, info_words, TellsInfo, IsDue, due_words, TellsDue};
-ghost use Rattle.quic_session.specs.Sessions.{datagrams_view, next_told};
+ghost use Rattle.quic_streams_c.specs.Settings.{side_at, raw_limits, config_at, IsConfig, IsConfigOf, IsNewOf, OpensHandle, with_tracking, is_tracked, limits_at, AreLimits, peer_limits, SetsLimits, SetsLimitsRaw, Closes, Rejects, SendsEarlyAgain, SetsSendWindowRaw, SetsReceiveWindowRaw, SetsConcurrentRaw, flag, IsInfo, info_words, TellsInfo, IsDue, due_words, TellsDue};
 
-use crate::codes::{
-    ARGUMENT, CLOSED, DONE, IN_USE, NO_MEMORY, OK, dir_of, direction_number, id_of, length_of,
-    small,
-};
+use crate::codes::{ARGUMENT, CLOSED, IN_USE, NO_MEMORY, OK, dir_of, length_of, small};
 use crate::handle::{Handle, closed, holding, take_out};
 use crate::words::{are_zero_from, fill_words, word_at};
 use quic_datagrams::DatagramLimits;
 use quic_session::Session;
-use quic_session::datagrams::DatagramEvent;
 use quic_session::params::ParamsError;
 use quic_session::session::Config;
 use quic_streams::PeerLimits;
 use quic_values::{Dir, OutOfMemory, Side, VarInt};
-use quic_wire::StreamEvent;
 use std::alloc::Global;
 
 /// What a session begins with.
@@ -37,6 +31,7 @@ pub struct RawConfig {
     pub stream_window: u64,
     pub datagram_receive: u64,
     pub datagram_send: u64,
+    pub track_streams: u64,
 }
 
 /// The limits of the peer's transport parameters.
@@ -49,16 +44,6 @@ pub struct RawLimits {
     pub stream_data_bidi_local: u64,
     pub stream_data_bidi_remote: u64,
     pub max_datagram: u64,
-}
-
-/// An event.
-#[derive(Clone, Copy)]
-#[repr(C)]
-pub struct RawEvent {
-    pub kind: u32,
-    pub dir: u32,
-    pub id: u64,
-    pub app_code: u64,
 }
 
 /// What a session tells of itself.
@@ -92,7 +77,7 @@ pub struct RawDue {
 // From this count of streams on there is none (RFC 9000 section 4.6).
 const COUNT_END: u64 = (1 << 60) + 1;
 // How many words of a configuration the library knows.
-const CONFIG_WORDS: usize = 8;
+const CONFIG_WORDS: usize = 9;
 // How many words of the peer's limits it knows.
 const LIMIT_WORDS: usize = 7;
 
@@ -109,6 +94,7 @@ fn config_at(words: &[u64]) -> RawConfig
         stream_window: word_at(words, 5),
         datagram_receive: word_at(words, 6),
         datagram_send: word_at(words, 7),
+        track_streams: word_at(words, 8),
     }
 }
 
@@ -153,7 +139,7 @@ fn side_of(number: u64) -> Side
 fn config_of(raw: &RawConfig) -> Option<Config>
     ensures { MatchOption result (IsConfig raw.now → ⊥) (λ c. IsConfig raw.now × IsConfigOf raw.now c) }
 {
-    if raw.side >= 2 {
+    if raw.side >= 2 || raw.track_streams >= 2 {
         return None;
     }
     if raw.max_remote_uni >= COUNT_END || raw.max_remote_bi >= COUNT_END {
@@ -172,13 +158,43 @@ fn config_of(raw: &RawConfig) -> Option<Config>
     })
 }
 
-// A session of a configuration.
-fn new_session(alloc: Global, config: &Config) -> Result<Box<Session>, OutOfMemory>
+// Whether the streams of a session are tracked.
+fn is_tracked(raw: &RawConfig) -> bool
+    ensures { result ≡ is_tracked raw.now }
+{
+    raw.track_streams == 1
+}
+
+// Has a session track its streams, if this is asked for.
+fn track_if(session: &mut Session, tracks: bool) -> Result<(), OutOfMemory>
+    ensures ok { OnOk result (users_view session.new.users ≡ with_tracking tracks (users_view session.old.users)) }
+    ensures end { end_of session.new ≡ end_of session.old }
+    ensures beside { beside_of session.new ≡ beside_of session.old }
+{
+    if tracks {
+        return session.track_streams();
+    }
+    Ok(())
+}
+
+// A session of a configuration, whose streams are tracked or not.
+fn begin(alloc: Global, config: &Config, tracks: bool) -> Result<Session, OutOfMemory>
     requires uni { config.now.max_remote_uni ≤ 2 ^ 60 }
     requires bi { config.now.max_remote_bi ≤ 2 ^ 60 }
-    ensures { IfOk result (λ s. IsNewOf config.now s.value) }
+    ensures { IfOk result (λ s. IsNewOf config.now tracks s) }
 {
-    let session = Session::new(alloc, config)?;
+    let mut session = Session::new(alloc, config)?;
+    track_if(&mut session, tracks)?;
+    Ok(session)
+}
+
+// A session in a box, for a handle.
+fn new_session(alloc: Global, config: &Config, tracks: bool) -> Result<Box<Session>, OutOfMemory>
+    requires uni { config.now.max_remote_uni ≤ 2 ^ 60 }
+    requires bi { config.now.max_remote_bi ≤ 2 ^ 60 }
+    ensures { IfOk result (λ s. IsNewOf config.now tracks s.value) }
+{
+    let session = begin(alloc, config, tracks)?;
     match Box::new(alloc, session) {
         Ok(session) => Ok(session),
         Err(_) => Err(OutOfMemory),
@@ -196,10 +212,11 @@ pub extern "C" fn qs_conn_open_words(alloc: Global, handle: &mut Handle, words: 
     if !are_zero_from(words, CONFIG_WORDS) {
         return ARGUMENT;
     }
-    let Some(config) = config_of(&config_at(words)) else {
+    let raw = config_at(words);
+    let Some(config) = config_of(&raw) else {
         return ARGUMENT;
     };
-    match new_session(alloc, &config) {
+    match new_session(alloc, &config, is_tracked(&raw)) {
         Ok(session) => {
             *handle = holding(session);
             OK
@@ -432,81 +449,6 @@ fn set_max_concurrent(session: &mut Session, dir: u32, count: u64) -> i32
     tell_memory(&session.set_max_concurrent(dir, count))
 }
 
-// An event of a kind.
-fn event(kind: u32, dir: u32, id: u64, app_code: u64) -> RawEvent
-    ensures { result ≡ raw_event kind dir id app_code }
-{
-    RawEvent {
-        kind,
-        dir,
-        id,
-        app_code,
-    }
-}
-
-// An event of the streams in numbers.
-fn event_of(told: StreamEvent) -> RawEvent
-    ensures { result ≡ event_at told }
-{
-    match told {
-        StreamEvent::Opened { dir } => event(1, direction_number(dir), 0, 0),
-        StreamEvent::Readable { id } => event(2, direction_number(id.dir()), id_of(id), 0),
-        StreamEvent::Writable { id } => event(3, direction_number(id.dir()), id_of(id), 0),
-        StreamEvent::Finished { id } => event(4, direction_number(id.dir()), id_of(id), 0),
-        StreamEvent::Stopped { id, error_code } => {
-            event(
-                5,
-                direction_number(id.dir()),
-                id_of(id),
-                error_code.into_inner(),
-            )
-        }
-        StreamEvent::Available { dir } => event(6, direction_number(dir), 0, 0),
-    }
-}
-
-// The next event of a session, if there is one.
-fn next_event(session: &mut Session) -> Option<RawEvent>
-    ensures { TellsEvent (next_told (datagrams_view session.old)) session.old result session.new }
-{
-    match session.poll_datagrams() {
-        Some(DatagramEvent::Received) => Some(event(7, 0, 0, 0)),
-        Some(DatagramEvent::Unblocked) => Some(event(8, 0, 0, 0)),
-        None => match session.poll() {
-            Some(told) => Some(event_of(told)),
-            None => None,
-        },
-    }
-}
-
-/// Gives the next event.
-#[unsafe(no_mangle)]
-pub extern "C" fn qs_poll(alloc: Global, handle: &mut Handle, told: &mut RawEvent) -> i32
-    ensures { Calls handle.old.slot.value result handle.new.slot.value (told.new ≡ told.old) (λ s t. PollsRaw s result t told.old told.new) }
-{
-    match take_out(alloc, handle) {
-        None => CLOSED,
-        Some(mut session) => {
-            let code = poll(&mut session, told);
-            *handle = holding(session);
-            code
-        }
-    }
-}
-
-// The same, of a session.
-fn poll(session: &mut Session, told: &mut RawEvent) -> i32
-    ensures { PollsRaw session.old result session.new told.old told.new }
-{
-    match next_event(session) {
-        Some(next) => {
-            *told = next;
-            OK
-        }
-        None => DONE,
-    }
-}
-
 // A flag as a number.
 fn flag(set: bool) -> u64
     ensures { result ≡ flag set }
@@ -515,9 +457,8 @@ fn flag(set: bool) -> u64
 }
 
 // What a session tells of itself.
-fn info_of(session: &mut Session) -> RawInfo
-    ensures info { IsInfo session.old result }
-    ensures same { Unchanged session.old session.new }
+fn info_of(session: &Session) -> RawInfo
+    ensures { IsInfo session.now result }
 {
     let (open_bidi, open_uni, send_streams) = session.stream_counts();
     let payloads = session.unsettled_payloads() as u64;
@@ -543,9 +484,8 @@ fn info_of(session: &mut Session) -> RawInfo
 }
 
 // What waits to be sent.
-fn due_of(session: &mut Session) -> RawDue
-    ensures due { IsDue session.old result }
-    ensures same { Unchanged session.old session.new }
+fn due_of(session: &Session) -> RawDue
+    ensures { IsDue session.now result }
 {
     RawDue {
         control: flag(session.has_pending()),
@@ -557,12 +497,12 @@ fn due_of(session: &mut Session) -> RawDue
 /// Tells what waits to be sent.
 #[unsafe(no_mangle)]
 pub extern "C" fn qs_get_due_words(alloc: Global, handle: &mut Handle, words: &mut [u64]) -> i32
-    ensures { Calls handle.old.slot.value result handle.new.slot.value (words.new ≡ words.old) (λ s t. TellsDue s result t words.old words.new) }
+    ensures { Questions handle.old.slot.value result handle.new.slot.value (words.new ≡ words.old) (λ s. TellsDue s result words.old words.new) }
 {
     match take_out(alloc, handle) {
         None => CLOSED,
-        Some(mut session) => {
-            let code = tell_due(&mut session, words);
+        Some(session) => {
+            let code = tell_due(&session, words);
             *handle = holding(session);
             code
         }
@@ -570,8 +510,8 @@ pub extern "C" fn qs_get_due_words(alloc: Global, handle: &mut Handle, words: &m
 }
 
 // The same, of a session.
-fn tell_due(session: &mut Session, words: &mut [u64]) -> i32
-    ensures { TellsDue session.old result session.new words.old words.new }
+fn tell_due(session: &Session, words: &mut [u64]) -> i32
+    ensures { TellsDue session.now result words.old words.new }
 {
     let due = due_of(session);
     fill_words(words, &due_words(&due));
@@ -588,12 +528,12 @@ fn due_words(due: &RawDue) -> [u64; 3]
 /// Tells the counts of a session.
 #[unsafe(no_mangle)]
 pub extern "C" fn qs_get_info_words(alloc: Global, handle: &mut Handle, words: &mut [u64]) -> i32
-    ensures { Calls handle.old.slot.value result handle.new.slot.value (words.new ≡ words.old) (λ s t. TellsInfo s result t words.old words.new) }
+    ensures { Questions handle.old.slot.value result handle.new.slot.value (words.new ≡ words.old) (λ s. TellsInfo s result words.old words.new) }
 {
     match take_out(alloc, handle) {
         None => CLOSED,
-        Some(mut session) => {
-            let code = tell_info(&mut session, words);
+        Some(session) => {
+            let code = tell_info(&session, words);
             *handle = holding(session);
             code
         }
@@ -601,8 +541,8 @@ pub extern "C" fn qs_get_info_words(alloc: Global, handle: &mut Handle, words: &
 }
 
 // The same, of a session.
-fn tell_info(session: &mut Session, words: &mut [u64]) -> i32
-    ensures { TellsInfo session.old result session.new words.old words.new }
+fn tell_info(session: &Session, words: &mut [u64]) -> i32
+    ensures { TellsInfo session.now result words.old words.new }
 {
     let info = info_of(session);
     fill_words(words, &info_words(&info));

@@ -2,7 +2,7 @@
 
 ghost use Rattle.std.specs.Prelude.{◌≡◌};
 ghost use Rattle.quic_streams_c.specs.Answers.{TellsDone, TellsOption, datagram_code};
-ghost use Rattle.quic_streams_c.specs.Calls.{Calls};
+ghost use Rattle.quic_streams_c.specs.Calls.{Calls, Questions};
 ghost use Rattle.quic_streams_c.specs.Datagrams.{QueuesRaw, TakesRaw, TellsMax, TellsSpace, SetsMax};
 
 use crate::codes::{CLOSED, DATAGRAMS_OFF, DONE, OK, TOO_SMALL, code_of_datagram, length_of};
@@ -92,12 +92,12 @@ fn receive(session: &mut Session, out: &mut [u8], count: &mut usize) -> i32
 /// Tells the greatest length of a datagram.
 #[unsafe(no_mangle)]
 pub extern "C" fn qs_datagram_max_size(alloc: Global, handle: &mut Handle, size: &mut usize) -> i32
-    ensures { Calls handle.old.slot.value result handle.new.slot.value (size.new ≡ size.old) (λ s t. TellsMax s result t size.old size.new) }
+    ensures { Questions handle.old.slot.value result handle.new.slot.value (size.new ≡ size.old) (λ s. TellsMax s result size.old size.new) }
 {
     match take_out(alloc, handle) {
         None => CLOSED,
-        Some(mut session) => {
-            let code = tell_max(&mut session, size);
+        Some(session) => {
+            let code = tell_max(&session, size);
             *handle = holding(session);
             code
         }
@@ -105,8 +105,8 @@ pub extern "C" fn qs_datagram_max_size(alloc: Global, handle: &mut Handle, size:
 }
 
 // The same, of a session.
-fn tell_max(session: &mut Session, size: &mut usize) -> i32
-    ensures { TellsMax session.old result session.new size.old size.new }
+fn tell_max(session: &Session, size: &mut usize) -> i32
+    ensures { TellsMax session.now result size.old size.new }
 {
     match session.max_datagram() {
         Some(max) => {
@@ -124,24 +124,16 @@ pub extern "C" fn qs_datagram_send_space(
     handle: &mut Handle,
     size: &mut usize,
 ) -> i32
-    ensures { Calls handle.old.slot.value result handle.new.slot.value (size.new ≡ size.old) (λ s t. TellsSpace s result t size.new) }
+    ensures { Questions handle.old.slot.value result handle.new.slot.value (size.new ≡ size.old) (λ s. TellsSpace s result size.new) }
 {
     match take_out(alloc, handle) {
         None => CLOSED,
-        Some(mut session) => {
-            let code = tell_space(&mut session, size);
+        Some(session) => {
+            *size = session.datagram_send_space();
             *handle = holding(session);
-            code
+            OK
         }
     }
-}
-
-// The same, of a session.
-fn tell_space(session: &mut Session, size: &mut usize) -> i32
-    ensures { TellsSpace session.old result session.new size.new }
-{
-    *size = session.datagram_send_space();
-    OK
 }
 
 /// Sets the greatest length of a datagram.

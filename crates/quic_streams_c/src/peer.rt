@@ -113,8 +113,7 @@ fn tell_taken(answer: &Result<ShouldTransmit, ReceiveError>, error: &mut RawErro
 {
     match answer {
         Ok(_) => OK,
-        Err(ReceiveError::CompactionMemory) => OK,
-        Err(ReceiveError::OutOfMemory) => NO_MEMORY,
+        Err(ReceiveError::OutOfMemory | ReceiveError::CompactionMemory) => NO_MEMORY,
         Err(ReceiveError::Transport(why)) => {
             tell(why, error);
             PROTOCOL

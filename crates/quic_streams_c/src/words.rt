@@ -4,9 +4,15 @@ ghost use Rattle.std.specs.Prelude.{◌≡◌, ◌↔◌, IsTrue, slice_index};
 ghost use Rattle.quic_streams_c.specs.Words.{words_filled, AreZeroFrom};
 
 // Writes the words that the library knows, as many as the caller has, and 0 into the caller's others.
+#[inline(always)]
 pub(crate) fn fill_words(out: &mut [u64], known: &[u64])
     ensures { out.new ≡ words_filled known.now out.old }
 {
+    // As a rule both have the same words. Then the length of the copy is a constant.
+    if out.len() == known.len() {
+        out.copy_from_slice(known);
+        return;
+    }
     out.fill(0);
     let count = known.len().min(out.len());
     out[..count].copy_from_slice(&known[..count]);

@@ -23,7 +23,7 @@ fn chunks_go_over_a_stream() -> Result<(), Box<dyn std::error::Error>> {
         .emit(&mut packet, Emit::ALL)?
         .expect("data is pending");
     assert_eq!(server.receive(&packet[..payload.len])?, Received::All);
-    assert_eq!(server.accept(Dir::Uni), Some(id));
+    assert_eq!(server.accept(Dir::Uni), Ok(Some(id)));
     let mut stream = server.recv_stream(id);
     let mut read = stream.chunks(true);
     assert_eq!(read.next_bytes(5)?, Some((0, Bytes::from_static(b"hello"))));

@@ -82,6 +82,8 @@ pub const QS_EVENT_AVAILABLE: u32 = 6;
 pub const QS_EVENT_DATAGRAM: u32 = 7;
 /// a blocked datagram may be queued now
 pub const QS_EVENT_DATAGRAM_ROOM: u32 = 8;
+/// both sides of id are gone: free what belongs to it. Only if track_streams is 1
+pub const QS_EVENT_CLOSED: u32 = 9;
 /// RESET_STREAM, STOP_SENDING, MAX_*, *_BLOCKED
 pub const QS_CONTROL: u32 = 1;
 /// DATAGRAM
@@ -138,6 +140,7 @@ pub struct qs_config {
     pub stream_window: u64,
     pub datagram_receive: u64,
     pub datagram_send: u64,
+    pub track_streams: u64,
 }
 
 impl qs_config {
@@ -151,10 +154,11 @@ impl qs_config {
         stream_window: 0,
         datagram_receive: 0,
         datagram_send: 0,
+        track_streams: 0,
     };
 }
 
-const _: () = assert!(size_of::<qs_config>() == 64 && align_of::<qs_config>() == 8);
+const _: () = assert!(size_of::<qs_config>() == 72 && align_of::<qs_config>() == 8);
 
 /// The limits in the peer's transport parameters (RFC 9000 section 18.2), by
 /// their names there, each below 2^62, and a limit of datagrams, which is any
@@ -212,10 +216,11 @@ const _: () = assert!(size_of::<qs_slice>() == 24 && align_of::<qs_slice>() == 8
 #[derive(Clone, Copy, Debug)]
 #[repr(C)]
 pub struct qs_event {
-    pub kind: u32,
-    pub dir: u32,
+    pub kind: u64,
+    pub dir: u64,
     pub id: u64,
     pub app_code: u64,
+    pub user: u64,
 }
 
 impl qs_event {
@@ -225,10 +230,11 @@ impl qs_event {
         dir: 0,
         id: 0,
         app_code: 0,
+        user: 0,
     };
 }
 
-const _: () = assert!(size_of::<qs_event>() == 24 && align_of::<qs_event>() == 8);
+const _: () = assert!(size_of::<qs_event>() == 40 && align_of::<qs_event>() == 8);
 
 /// The state of a session.
 #[derive(Clone, Copy, Debug)]
@@ -273,6 +279,66 @@ impl qs_info {
 }
 
 const _: () = assert!(size_of::<qs_info>() == 120 && align_of::<qs_info>() == 8);
+
+/// How many frames a session sent and received, from its start, and how many
+/// bytes were declared lost. A frame that is sent again after a loss counts
+/// again. A received frame counts when it is processed, also if it is rejected;
+/// one that is processed again after `QS_ERR_NOMEM` counts again. Each number
+/// stops at 2^64-1.
+#[derive(Clone, Copy, Debug)]
+#[repr(C)]
+pub struct qs_stats {
+    pub sent_stream: u64,
+    pub sent_reset_stream: u64,
+    pub sent_stop_sending: u64,
+    pub sent_max_data: u64,
+    pub sent_max_stream_data: u64,
+    pub sent_max_streams_bidi: u64,
+    pub sent_max_streams_uni: u64,
+    pub sent_data_blocked: u64,
+    pub sent_stream_data_blocked: u64,
+    pub sent_datagram: u64,
+    pub received_stream: u64,
+    pub received_reset_stream: u64,
+    pub received_stop_sending: u64,
+    pub received_max_data: u64,
+    pub received_max_stream_data: u64,
+    pub received_max_streams_bidi: u64,
+    pub received_max_streams_uni: u64,
+    pub received_data_blocked: u64,
+    pub received_stream_data_blocked: u64,
+    pub received_datagram: u64,
+    pub lost_bytes: u64,
+}
+
+impl qs_stats {
+    /// All zero bytes.
+    pub const ZERO: Self = Self {
+        sent_stream: 0,
+        sent_reset_stream: 0,
+        sent_stop_sending: 0,
+        sent_max_data: 0,
+        sent_max_stream_data: 0,
+        sent_max_streams_bidi: 0,
+        sent_max_streams_uni: 0,
+        sent_data_blocked: 0,
+        sent_stream_data_blocked: 0,
+        sent_datagram: 0,
+        received_stream: 0,
+        received_reset_stream: 0,
+        received_stop_sending: 0,
+        received_max_data: 0,
+        received_max_stream_data: 0,
+        received_max_streams_bidi: 0,
+        received_max_streams_uni: 0,
+        received_data_blocked: 0,
+        received_stream_data_blocked: 0,
+        received_datagram: 0,
+        lost_bytes: 0,
+    };
+}
+
+const _: () = assert!(size_of::<qs_stats>() == 168 && align_of::<qs_stats>() == 8);
 
 /// Memory for one payload, for a host that copies none: `qs_emit_buffer` writes
 /// into it, `qs_receive_buffer` takes a payload out of it. In between the host
@@ -414,7 +480,29 @@ extern "C" {
     /// - id: the stream, written with `QS_OK` only
     /// - `QS_OK`: the stream is accepted
     /// - `QS_DONE`: no stream waits to be accepted
+    /// - `QS_ERR_NOMEM`: out of memory; the stream waits still. Only if
+    ///   track_streams is 1
     pub fn qs_stream_accept(conn: *mut qs_conn, dir: u32, id: *mut u64) -> i32;
+    /// Sets a number of the host's own for a stream, for example the address of
+    /// what the host keeps of it. Each later event of the stream has it. The session
+    /// keeps such numbers only if track_streams is 1.
+    ///
+    /// - id: a stream that was opened or accepted and did not raise
+    ///   `QS_EVENT_CLOSED`
+    /// - user: any number; it is 0 at first
+    /// - `QS_OK`: it is set
+    /// - `QS_ERR_NO_STREAM`: there is no such stream, or track_streams is 0
+    /// - `QS_ERR_ARGUMENT`: id is 2^62 or above
+    /// - `QS_ERR_NOMEM`: out of memory; the number is as it was
+    pub fn qs_stream_set_user(conn: *mut qs_conn, id: u64, user: u64) -> i32;
+    /// Returns the number that `qs_stream_set_user` set last for a stream.
+    ///
+    /// - id: as for `qs_stream_set_user`
+    /// - user: that number, 0 if none was set; written with `QS_OK` only
+    /// - `QS_OK`: *user is set
+    /// - `QS_ERR_NO_STREAM`: there is no such stream, or track_streams is 0
+    /// - `QS_ERR_ARGUMENT`: id is 2^62 or above
+    pub fn qs_stream_user(conn: *const qs_conn, id: u64, user: *mut u64) -> i32;
     /// Writes data to a stream, and copies it: len bytes, or as many as the peer's
     /// limits and the send window allow. After a partial write call again with the
     /// rest: only `QS_ERR_BLOCKED` makes `QS_EVENT_WRITABLE` certain. A write of length
@@ -443,6 +531,45 @@ extern "C" {
         written: *mut usize,
         app_code: *mut u64,
     ) -> i32;
+    /// Writes data to a stream as `qs_stream_write` does, and finishes the stream in
+    /// the same step if fin is not 0 and all of len was taken: the last STREAM frame
+    /// of the data can have the FIN bit. If len is 0 and fin is not 0 it is
+    /// `qs_stream_finish`, which needs no credit.
+    ///
+    /// - data: len bytes; may be NULL if len is 0
+    /// - fin: not 0: no data follows
+    /// - written: bytes written, also with the errors listed here
+    /// - app_code: the peer's error code, with `QS_ERR_STOPPED` only
+    /// - `QS_OK`: *written bytes were taken, at least one if len is not 0. If fin
+    ///   is not 0 and *written is len, the stream is finished, and
+    ///   `QS_EVENT_FINISHED` follows when all is acknowledged.
+    /// - `QS_ERR_BLOCKED`: as `qs_stream_write`; *written is 0
+    /// - `QS_ERR_STOPPED`: as `qs_stream_write`; *written is 0
+    /// - `QS_ERR_NO_STREAM`: the send side is closed or never existed
+    /// - `QS_ERR_NOMEM`: out of memory. *written is 0, and nothing was written;
+    ///   or it is len, all was written and the stream is not finished: call
+    ///   `qs_stream_finish`.
+    pub fn qs_stream_write_fin(
+        conn: *mut qs_conn,
+        id: u64,
+        data: *const u8,
+        len: usize,
+        fin: u32,
+        written: *mut usize,
+        app_code: *mut u64,
+    ) -> i32;
+    /// Asks how many bytes one `qs_stream_write` would take now: the least of what
+    /// the peer's limit for the stream, its limit for all streams and the send
+    /// window allow. A write of len bytes takes len or *bytes, whichever is less. If
+    /// *bytes is 0, a write of one byte is `QS_ERR_BLOCKED` or `QS_ERR_STOPPED`. Nothing
+    /// is noted as blocked, so no event follows: write to get `QS_EVENT_WRITABLE`.
+    ///
+    /// - bytes: written with `QS_OK` only; 0 if the peer stopped the stream,
+    ///   and after `qs_conn_close`
+    /// - `QS_OK`: *bytes is set
+    /// - `QS_ERR_NO_STREAM`: a write would return it: the send side is finished,
+    ///   reset or closed, or never existed
+    pub fn qs_stream_send_room(conn: *const qs_conn, id: u64, bytes: *mut u64) -> i32;
     /// Finishes a stream: no data follows, and FIN is sent.
     ///
     /// - app_code: the peer's error code, with `QS_ERR_STOPPED` only
@@ -478,14 +605,14 @@ extern "C" {
     /// - priority: written with `QS_OK` only
     /// - `QS_OK`: *priority is set
     /// - `QS_ERR_NO_STREAM`: the send side is closed or never existed
-    pub fn qs_stream_priority(conn: *mut qs_conn, id: u64, priority: *mut i32) -> i32;
+    pub fn qs_stream_priority(conn: *const qs_conn, id: u64, priority: *mut i32) -> i32;
     /// Asks whether the peer sent STOP_SENDING for a stream.
     ///
     /// - app_code: the peer's error code, with `QS_OK` only
     /// - `QS_OK`: it did
     /// - `QS_DONE`: it did not
     /// - `QS_ERR_NO_STREAM`: the send side is closed or never existed
-    pub fn qs_stream_stopped(conn: *mut qs_conn, id: u64, app_code: *mut u64) -> i32;
+    pub fn qs_stream_stopped(conn: *const qs_conn, id: u64, app_code: *mut u64) -> i32;
     /// Asks whether the peer reset a stream.
     ///
     /// - app_code: the peer's error code, with `QS_OK` only
@@ -603,14 +730,12 @@ extern "C" {
     /// - `QS_OK`: done
     /// - `QS_ERR_NOMEM`: out of memory
     pub fn qs_set_max_concurrent(conn: *mut qs_conn, dir: u32, count: u64) -> i32;
-    /// Removes and returns the next event.
-    ///
-    /// - event: written with `QS_OK` only
-    /// - `QS_OK`: *event is set
-    /// - `QS_DONE`: there is none
-    pub fn qs_poll(conn: *mut qs_conn, event: *mut qs_event) -> i32;
+    /// What `qs_poll` calls.
+    pub fn qs_poll_words(conn: *mut qs_conn, words: *mut u64, count: usize) -> i32;
     /// What `qs_get_info` calls.
-    pub fn qs_get_info_words(conn: *mut qs_conn, words: *mut u64, count: usize) -> i32;
+    pub fn qs_get_info_words(conn: *const qs_conn, words: *mut u64, count: usize) -> i32;
+    /// What `qs_get_stats` calls.
+    pub fn qs_get_stats_words(conn: *const qs_conn, words: *mut u64, count: usize) -> i32;
     /// Makes a buffer at least size bytes long, with zeros after its bytes. A
     /// closed buffer is opened.
     ///
@@ -702,7 +827,8 @@ extern "C" {
     /// - `QS_OK`: the frame was processed
     /// - `QS_ERR_PROTOCOL`: close the connection with *error. If the reassembly
     ///   limit is exceeded (INTERNAL_ERROR), the data stays buffered.
-    /// - `QS_ERR_NOMEM`: out of memory; the frame was not processed
+    /// - `QS_ERR_NOMEM`: out of memory. The data may be buffered, but raised no
+    ///   event: pass the frame in again, or treat the packet as not received
     pub fn qs_on_stream(
         conn: *mut qs_conn,
         id: u64,
@@ -797,7 +923,7 @@ extern "C" {
         count: usize,
     ) -> i32;
     /// What `qs_get_due` calls.
-    pub fn qs_get_due_words(conn: *mut qs_conn, words: *mut u64, count: usize) -> i32;
+    pub fn qs_get_due_words(conn: *const qs_conn, words: *mut u64, count: usize) -> i32;
     /// Reports that the packet of a payload was acknowledged (RFC 9000 section
     /// 13.3). Report each payload once, as acknowledged or as lost.
     ///
@@ -842,8 +968,8 @@ extern "C" {
     /// - count: its length, with `QS_OK` and `QS_ERR_TOO_SMALL`
     /// - `QS_OK`: the datagram is in data
     /// - `QS_DONE`: none was received
-    /// - `QS_ERR_TOO_SMALL`: it is longer than cap and stays the oldest; from now
-    ///   on it does not count against datagram_receive
+    /// - `QS_ERR_TOO_SMALL`: it is longer than cap and stays the oldest. It still
+    ///   counts against datagram_receive, and further ones may drop it
     pub fn qs_datagram_recv(
         conn: *mut qs_conn,
         data: *mut u8,
@@ -856,14 +982,14 @@ extern "C" {
     /// - size: written with `QS_OK` only
     /// - `QS_OK`: *size is set
     /// - `QS_ERR_DATAGRAMS_OFF`: the peer accepts none
-    pub fn qs_datagram_max_size(conn: *mut qs_conn, size: *mut usize) -> i32;
+    pub fn qs_datagram_max_size(conn: *const qs_conn, size: *mut usize) -> i32;
     /// The free room among the pending datagrams: the length of the longest that
     /// datagram_send can still take without dropping another. The limit of the path
     /// and the peer may be lower; see `qs_datagram_max_size`.
     ///
     /// - size: written with `QS_OK` only
     /// - `QS_OK`: *size is set
-    pub fn qs_datagram_send_space(conn: *mut qs_conn, size: *mut usize) -> i32;
+    pub fn qs_datagram_send_space(conn: *const qs_conn, size: *mut usize) -> i32;
     /// Sets the length of the longest datagram that the path and the peer accept,
     /// and drops longer ones that are pending.
     ///
@@ -909,6 +1035,20 @@ pub unsafe fn qs_set_peer_limits(conn: *mut qs_conn, limits: *const qs_peer_limi
     qs_set_peer_limits_words(conn, limits.cast(), size_of::<qs_peer_limits>() / 8)
 }
 
+/// Removes and returns the next event.
+///
+/// - event: written with `QS_OK` only
+/// - `QS_OK`: *event is set
+/// - `QS_DONE`: there is none
+///
+/// # Safety
+///
+/// Pointers are valid, as the header says.
+#[inline]
+pub unsafe fn qs_poll(conn: *mut qs_conn, event: *mut qs_event) -> i32 {
+    qs_poll_words(conn, event.cast(), size_of::<qs_event>() / 8)
+}
+
 /// Reads the state of the session.
 ///
 /// - info: written with `QS_OK` only
@@ -918,8 +1058,21 @@ pub unsafe fn qs_set_peer_limits(conn: *mut qs_conn, limits: *const qs_peer_limi
 ///
 /// Pointers are valid, as the header says.
 #[inline]
-pub unsafe fn qs_get_info(conn: *mut qs_conn, info: *mut qs_info) -> i32 {
+pub unsafe fn qs_get_info(conn: *const qs_conn, info: *mut qs_info) -> i32 {
     qs_get_info_words(conn, info.cast(), size_of::<qs_info>() / 8)
+}
+
+/// Reads the counters of the session.
+///
+/// - stats: written with `QS_OK` only
+/// - `QS_OK`: *stats is set
+///
+/// # Safety
+///
+/// Pointers are valid, as the header says.
+#[inline]
+pub unsafe fn qs_get_stats(conn: *const qs_conn, stats: *mut qs_stats) -> i32 {
+    qs_get_stats_words(conn, stats.cast(), size_of::<qs_stats>() / 8)
 }
 
 /// Writes pending frames, at most cap bytes, of the named parts. A host that
@@ -1034,7 +1187,7 @@ pub unsafe fn qs_emit_buffer(
 ///
 /// Pointers are valid, as the header says.
 #[inline]
-pub unsafe fn qs_get_due(conn: *mut qs_conn, due: *mut qs_due) -> i32 {
+pub unsafe fn qs_get_due(conn: *const qs_conn, due: *mut qs_due) -> i32 {
     qs_get_due_words(conn, due.cast(), size_of::<qs_due>() / 8)
 }
 
@@ -1066,6 +1219,7 @@ mod tests {
         assert_eq!(offset!(qs_config, stream_window), 40);
         assert_eq!(offset!(qs_config, datagram_receive), 48);
         assert_eq!(offset!(qs_config, datagram_send), 56);
+        assert_eq!(offset!(qs_config, track_streams), 64);
         assert_eq!(offset!(qs_peer_limits, initial_max_data), 0);
         assert_eq!(offset!(qs_peer_limits, initial_max_streams_bidi), 8);
         assert_eq!(offset!(qs_peer_limits, initial_max_streams_uni), 16);
@@ -1083,9 +1237,10 @@ mod tests {
         assert_eq!(offset!(qs_slice, start), 8);
         assert_eq!(offset!(qs_slice, len), 16);
         assert_eq!(offset!(qs_event, kind), 0);
-        assert_eq!(offset!(qs_event, dir), 4);
-        assert_eq!(offset!(qs_event, id), 8);
-        assert_eq!(offset!(qs_event, app_code), 16);
+        assert_eq!(offset!(qs_event, dir), 8);
+        assert_eq!(offset!(qs_event, id), 16);
+        assert_eq!(offset!(qs_event, app_code), 24);
+        assert_eq!(offset!(qs_event, user), 32);
         assert_eq!(offset!(qs_info, max_concurrent_bidi), 0);
         assert_eq!(offset!(qs_info, max_concurrent_uni), 8);
         assert_eq!(offset!(qs_info, max_remote_bidi), 16);
@@ -1101,6 +1256,27 @@ mod tests {
         assert_eq!(offset!(qs_info, payloads), 96);
         assert_eq!(offset!(qs_info, can_send_stream_data), 104);
         assert_eq!(offset!(qs_info, has_pending), 112);
+        assert_eq!(offset!(qs_stats, sent_stream), 0);
+        assert_eq!(offset!(qs_stats, sent_reset_stream), 8);
+        assert_eq!(offset!(qs_stats, sent_stop_sending), 16);
+        assert_eq!(offset!(qs_stats, sent_max_data), 24);
+        assert_eq!(offset!(qs_stats, sent_max_stream_data), 32);
+        assert_eq!(offset!(qs_stats, sent_max_streams_bidi), 40);
+        assert_eq!(offset!(qs_stats, sent_max_streams_uni), 48);
+        assert_eq!(offset!(qs_stats, sent_data_blocked), 56);
+        assert_eq!(offset!(qs_stats, sent_stream_data_blocked), 64);
+        assert_eq!(offset!(qs_stats, sent_datagram), 72);
+        assert_eq!(offset!(qs_stats, received_stream), 80);
+        assert_eq!(offset!(qs_stats, received_reset_stream), 88);
+        assert_eq!(offset!(qs_stats, received_stop_sending), 96);
+        assert_eq!(offset!(qs_stats, received_max_data), 104);
+        assert_eq!(offset!(qs_stats, received_max_stream_data), 112);
+        assert_eq!(offset!(qs_stats, received_max_streams_bidi), 120);
+        assert_eq!(offset!(qs_stats, received_max_streams_uni), 128);
+        assert_eq!(offset!(qs_stats, received_data_blocked), 136);
+        assert_eq!(offset!(qs_stats, received_stream_data_blocked), 144);
+        assert_eq!(offset!(qs_stats, received_datagram), 152);
+        assert_eq!(offset!(qs_stats, lost_bytes), 160);
         assert_eq!(offset!(qs_buffer, live), 0);
         assert_eq!(offset!(qs_buffer, at), 8);
         assert_eq!(offset!(qs_buffer, data), 16);

@@ -154,11 +154,11 @@ impl Subject {
     }
 
     fn accept(&mut self) {
-        while let Some(id) = self.end.accept(Dir::Bi) {
+        while let Some(id) = self.end.accept(Dir::Bi).expect("memory") {
             assert_eq!(id, stream_id(self.opened_bi << 2 | 1));
             self.opened_bi += 1;
         }
-        while let Some(id) = self.end.accept(Dir::Uni) {
+        while let Some(id) = self.end.accept(Dir::Uni).expect("memory") {
             assert_eq!(id, stream_id(self.opened_uni << 2 | 3));
             self.opened_uni += 1;
         }

@@ -65,7 +65,7 @@ impl Subject {
     pub fn new() -> Result<Self> {
         let mut end = client(1, AMPLE, AMPLE)?;
         end.on_stream(ID, 0, b"", false, 0)?;
-        assert_eq!(end.accept(Dir::Uni), Some(ID));
+        assert_eq!(end.accept(Dir::Uni), Ok(Some(ID)));
         let room = vec![0; ALL];
         Ok(Subject { end, room })
     }

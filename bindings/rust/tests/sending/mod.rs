@@ -116,7 +116,7 @@ impl End {
     }
 
     pub fn accept(&mut self, dir: Dir) -> Option<u64> {
-        self.0.accept(dir).map(u64::from)
+        self.0.accept(dir).expect("memory").map(u64::from)
     }
 
     /// Writes so many bytes, the first ones of the text.

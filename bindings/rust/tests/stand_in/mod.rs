@@ -170,6 +170,7 @@ plain! {
     qs_stream_reset(id: u64, app_code: u64);
     qs_stream_stop(id: u64, app_code: u64);
     qs_stream_set_priority(id: u64, priority: i32);
+    qs_stream_set_user(id: u64, user: u64);
     qs_set_send_window(window: u64);
     qs_set_receive_window(window: u64);
     qs_set_max_concurrent(dir: u32, count: u64);
@@ -178,13 +179,13 @@ plain! {
     qs_datagram_set_max_size(size: u64);
 }
 
-// Calls that take numbers and return one.
+// Calls that take numbers and return one; questions have a const handle.
 macro_rules! asking {
-    ($($name:ident($($argument:ident: $kind:ty),*) -> $out:ty;)*) => {$(
+    ($($pointer:tt $name:ident($($argument:ident: $kind:ty),*) -> $out:ty;)*) => {$(
         #[no_mangle]
-        unsafe extern "C" fn $name(conn: *mut qs_conn $(, $argument: $kind)*, out: *mut $out) -> i32 {
+        unsafe extern "C" fn $name(conn: *$pointer qs_conn $(, $argument: $kind)*, out: *mut $out) -> i32 {
             let arguments: &[i128] = &[$($argument.into()),*];
-            let answer = call(conn, format!("{} {arguments:?}", &stringify!($name)[3..]));
+            let answer = call(conn as *mut qs_conn, format!("{} {arguments:?}", &stringify!($name)[3..]));
             out.write(answer.number(0) as $out);
             answer.result
         }
@@ -192,14 +193,16 @@ macro_rules! asking {
 }
 
 asking! {
-    qs_stream_open(dir: u32) -> u64;
-    qs_stream_accept(dir: u32) -> u64;
-    qs_stream_finish(id: u64) -> u64;
-    qs_stream_priority(id: u64) -> i32;
-    qs_stream_stopped(id: u64) -> u64;
-    qs_stream_received_reset(id: u64) -> u64;
-    qs_datagram_max_size() -> usize;
-    qs_datagram_send_space() -> usize;
+    mut qs_stream_open(dir: u32) -> u64;
+    mut qs_stream_accept(dir: u32) -> u64;
+    mut qs_stream_finish(id: u64) -> u64;
+    mut qs_stream_received_reset(id: u64) -> u64;
+    const qs_stream_priority(id: u64) -> i32;
+    const qs_stream_stopped(id: u64) -> u64;
+    const qs_stream_send_room(id: u64) -> u64;
+    const qs_stream_user(id: u64) -> u64;
+    const qs_datagram_max_size() -> usize;
+    const qs_datagram_send_space() -> usize;
 }
 
 // An error with the first number and the bytes of an answer.
@@ -280,6 +283,23 @@ unsafe extern "C" fn qs_stream_write(
     answer.result
 }
 
+#[no_mangle]
+unsafe extern "C" fn qs_stream_write_fin(
+    conn: *mut qs_conn,
+    id: u64,
+    data: *const u8,
+    len: usize,
+    fin: u32,
+    written: *mut usize,
+    app_code: *mut u64,
+) -> i32 {
+    let data = bytes(data, len);
+    let answer = call(conn, format!("stream_write_fin {id} {data:?} {fin}"));
+    written.write(answer.number(0) as usize);
+    app_code.write(answer.number(1));
+    answer.result
+}
+
 // A read: the bytes, how many as the first number says, then offset and code.
 macro_rules! reads {
     ($($name:ident)*) => {$(
@@ -333,14 +353,9 @@ unsafe extern "C" fn qs_stream_read_lent(
 }
 
 #[no_mangle]
-unsafe extern "C" fn qs_poll(conn: *mut qs_conn, event: *mut qs_event) -> i32 {
+unsafe extern "C" fn qs_poll_words(conn: *mut qs_conn, words: *mut u64, count: usize) -> i32 {
     let answer = call(conn, "poll".into());
-    event.write(qs_event {
-        kind: answer.number(0) as u32,
-        dir: answer.number(1) as u32,
-        id: answer.number(2),
-        app_code: answer.number(3),
-    });
+    put_words::<qs_event>(words, count, &answer);
     answer.result
 }
 
@@ -360,15 +375,26 @@ unsafe fn put_words<T>(out: *mut u64, count: usize, answer: &Answer) {
 }
 
 #[no_mangle]
-unsafe extern "C" fn qs_get_info_words(conn: *mut qs_conn, words: *mut u64, count: usize) -> i32 {
-    let answer = call(conn, "get_info".into());
+unsafe extern "C" fn qs_get_info_words(conn: *const qs_conn, words: *mut u64, count: usize) -> i32 {
+    let answer = call(conn as *mut qs_conn, "get_info".into());
     put_words::<qs_info>(words, count, &answer);
     answer.result
 }
 
 #[no_mangle]
-unsafe extern "C" fn qs_get_due_words(conn: *mut qs_conn, words: *mut u64, count: usize) -> i32 {
-    let answer = call(conn, "get_due".into());
+unsafe extern "C" fn qs_get_stats_words(
+    conn: *const qs_conn,
+    words: *mut u64,
+    count: usize,
+) -> i32 {
+    let answer = call(conn as *mut qs_conn, "get_stats".into());
+    put_words::<qs_stats>(words, count, &answer);
+    answer.result
+}
+
+#[no_mangle]
+unsafe extern "C" fn qs_get_due_words(conn: *const qs_conn, words: *mut u64, count: usize) -> i32 {
+    let answer = call(conn as *mut qs_conn, "get_due".into());
     put_words::<qs_due>(words, count, &answer);
     answer.result
 }

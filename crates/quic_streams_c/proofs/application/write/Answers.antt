@@ -8,7 +8,5 @@ returns-in_default c = number-refused c.stream_of.result _ _ _ c.stream_of.ensur
 pub returns : goal.returns
 returns c =
     let w = c.write-answer.ensures in
-    let same = c.stopped_first.ensures.same in
-    let tells = rw c.stopped_first.ensures.answer at c.tell_write.ensures in
-    rw (same.0, same.1)
-    (number-given c.in-Some.id _ _ _ c.in-Some.ensures (c.write-answer.result, (w.writes, w.unknown, w.from, w.beside), simp (to_z-of_z {w = w32} {z = c.tell_write.result} (record { sfits = c.tell_write.type_inv })) tells))
+    let tells = rw c.stopped_first.ensures at c.tell_write.ensures in
+    number-given c.in-Some.id _ _ _ c.in-Some.ensures (c.write-answer.result, (w.writes, w.unknown, w.from, w.beside), simp (to_z-of_z {w = w32} {z = c.tell_write.result} (record { sfits = c.tell_write.type_inv })) tells)

@@ -6,6 +6,7 @@ returns c = let r = c.retransmit_all_for_0rtt in record {
   answer = r.result;
   sends = r.ensures.sends;
   unanswered = r.ensures.unanswered;
+  unacked = r.ensures.unacked;
   refused = r.ensures.err;
   pending = r.ensures.pending;
   beside = r.ensures.beside;

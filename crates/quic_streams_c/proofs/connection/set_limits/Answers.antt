@@ -9,6 +9,7 @@ returns-in-Ok c =
     let limits = c.in-Some.ensures.1 in
     inr (inl (
       c.in-Some.ensures.0,
+      rw limits at p.checks,
       Ok tt,
       record {
         end = d.end ∙ (rw limits at p.params);
@@ -24,4 +25,4 @@ pub returns-in-Err-OutOfMemory : goal.returns-in-Err-OutOfMemory
 returns-in-Err-OutOfMemory c =
     let p = rw (c.in-Err-OutOfMemory.is, c.in-Err-OutOfMemory.field-0-is) at c.set_params.ensures in
     let limits = c.in-Some.ensures.1 in
-    inr (inl (c.in-Some.ensures.0, Err (record {}), ((p.err, p.beside), λ m h f. rw limits at (p.from m h f)), p.free p.checks, refl))
+    inr (inl (c.in-Some.ensures.0, rw limits at p.checks, Err (record {}), ((p.err, p.beside), λ m h f. rw limits at (p.from m h f)), p.free p.checks, refl))

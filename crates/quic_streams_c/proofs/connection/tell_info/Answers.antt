@@ -5,6 +5,5 @@ use Rattle.quic_streams_c.proofs.connection.tell_info.Goals as goal
 pub returns : goal.returns
 returns c = (
   refl,
-  c.info_of-info.ensures.same,
-  (c.info_of-info.result, c.info_of-info.ensures.info, c.fill_words.ensures ∙ ap (λ (known : List ℕ). words_filled known c.args.words.now) c.info_words.ensures),
+  (c.info_of-info.result, c.info_of-info.ensures, c.fill_words.ensures ∙ ap (λ (known : List ℕ). words_filled known c.args.words.now) c.info_words.ensures),
 )

@@ -5,4 +5,4 @@ pub returns-in-None : goal.returns-in-None
 returns-in-None c = rw c.in-None.ensures.taken (refl, c.take_out.ensures.closed, refl)
 
 pub returns-in-Some : goal.returns-in-Some
-returns-in-Some c = rw (c.in-Some.ensures.taken, c.holding.ensures) (simp (to_z-of_z {w = w32} {z = c.tell_max-code.result} (record { sfits = c.tell_max-code.type_inv })) (rw c.deref_mut.ensures.value at c.tell_max-code.ensures))
+returns-in-Some c = rw (c.in-Some.ensures.taken, c.holding.ensures) (refl, simp (to_z-of_z {w = w32} {z = c.tell_max-code.result} (record { sfits = c.tell_max-code.type_inv })) (rw c.deref.ensures at c.tell_max-code.ensures))

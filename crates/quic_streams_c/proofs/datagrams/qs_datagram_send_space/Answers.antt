@@ -1,8 +1,8 @@
-use Rattle.std.proofs.Common.{refl, w32, to_z-of_z}
+use Rattle.std.proofs.Common.{refl}
 use Rattle.quic_streams_c.proofs.datagrams.qs_datagram_send_space.Goals as goal
 
 pub returns-in-None : goal.returns-in-None
 returns-in-None c = rw c.in-None.ensures.taken (refl, c.take_out.ensures.closed, refl)
 
 pub returns-in-Some : goal.returns-in-Some
-returns-in-Some c = rw (c.in-Some.ensures.taken, c.holding.ensures) (simp (to_z-of_z {w = w32} {z = c.tell_space-code.result} (record { sfits = c.tell_space-code.type_inv })) (rw c.deref_mut.ensures.value at c.tell_space-code.ensures))
+returns-in-Some c = rw (c.in-Some.ensures.taken, c.holding.ensures) (refl, (refl, rw c.deref.ensures at c.datagram_send_space.ensures.space))

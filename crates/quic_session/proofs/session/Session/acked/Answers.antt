@@ -13,7 +13,7 @@ returns-in_default-clause-acks c =
     let nothing = none-there c.take.result c.in_default.not-Some in
     let stands = sym c.take.ensures.sent ∙ nothing in
     let token = c.args.token in
-    (stands, (refl, c.take.ensures.rest ∙ put-none _ token stands))
+    (stands, (refl, c.take.ensures.rest ∙ put-none _ token stands, refl))
 
 pub returns-in-Ok-clause-acks : goal.returns-in-Ok-clause-acks
 returns-in-Ok-clause-acks c =
@@ -27,6 +27,7 @@ returns-in-Ok-clause-acks c =
       is = a.is;
       settled = c.take.ensures.rest;
       from = c.in-Ok.ensures.from;
+      counts = refl;
     }
 
 pub returns-in-Err-clause-acks : goal.returns-in-Err-clause-acks
@@ -45,4 +46,5 @@ returns-in-Err-clause-acks c =
       kept = c.put_rest_back.ensures.kept ∙ ap (λ (f : Kept). with_payload f token (Some c.in-Err.rest)) c.take.ensures.rest ∙ put-twice _ token (Some c.in-Err.rest);
       from = λ m h f. let Q : World → Type 0 = λ w. From m (acks_told (sent_view c.in-Some.payload) (Err (sent_view c.in-Err.rest)) h) w in
           subst Q (sym (ap (λ x. x.streams) now)) (c.in-Err.ensures.from m h f);
+      counts = c.put_rest_back.ensures.counts;
     })

@@ -1,6 +1,7 @@
 use Rattle.std.proofs.Common.{◌≡◌, ◌<◌, refl, sym, ap, ◌∙◌, subst, [], length, arith, Ok}
 use Rattle.std.proofs.lemmas.Bool.{eqb-true, eqb-false}
 use Rattle.std.proofs.lemmas.List.{nil_from_length}
+use Rattle.quic_session.specs.Counts.{counts_of}
 use Rattle.quic_session.specs.Sessions.{end_of, datagrams_view}
 use Rattle.quic_session.specs.Tokens.{unsettled}
 use Rattle.quic_session.specs.declared.unsettled.Unsettled.{Unsettled}
@@ -23,17 +24,17 @@ returns-clause-from c = frames-left (ap (λ x. x.streams) c.lend.ensures.end) (p
 pub returns-then-is_empty-clause-emits : goal.returns-then-is_empty-clause-emits
 returns-then-is_empty-clause-emits c =
     let w = c.write_parts-answer in
-    let P : DraftView → Type 0 = λ p. WritesParts c.args.max_size c.args.parts c.args.fair (record { end = end_of c.args.self.now; datagrams = datagrams_view c.args.self.now; payload = p }) (Ok tt) (writing_of w.new.self w.new.draft) in
+    let P : DraftView → Type 0 = λ p. WritesParts c.args.max_size c.args.parts c.args.fair (record { end = end_of c.args.self.now; datagrams = datagrams_view c.args.self.now; sent = (counts_of c.args.self.now).sent; payload = p }) (Ok tt) (writing_of w.new.self w.new.draft) in
     let empty = eqb-true _ 0 (sym c.is_empty.ensures ∙ c.if-is_empty.true) in
     let nothing : w.new.draft.bytes.items ≡ [] = nil_from_length w.new.draft.bytes.items (sym w.new.draft.bytes.ok.0 ∙ empty) in (
       (ap unsettled w.ensures.payloads ∙ c.reserve.ensures.same, ap (λ (u : Unsettled). u.next) w.ensures.payloads ∙ c.reserve.ensures.next),
-      record { written = writing_of w.new.self w.new.draft; writes = subst P c.blank_payload-draft.ensures c.in_ok-answer.ensures.writes; none = nothing; leaves = (refl, refl) },
+      record { written = writing_of w.new.self w.new.draft; writes = subst P c.blank_payload-draft.ensures c.in_ok-answer.ensures.writes; none = nothing; leaves = (refl, refl, w.ensures.counts) },
     )
 
 pub returns-clause-emits : goal.returns-clause-emits
 returns-clause-emits c =
     let w = c.write_parts-answer in
-    let P : DraftView → Type 0 = λ p. WritesParts c.args.max_size c.args.parts c.args.fair (record { end = end_of c.args.self.now; datagrams = datagrams_view c.args.self.now; payload = p }) w.result (writing_of w.new.self w.new.draft) in
+    let P : DraftView → Type 0 = λ p. WritesParts c.args.max_size c.args.parts c.args.fair (record { end = end_of c.args.self.now; datagrams = datagrams_view c.args.self.now; sent = (counts_of c.args.self.now).sent; payload = p }) w.result (writing_of w.new.self w.new.draft) in
     let writes = subst P c.blank_payload-draft.ensures w.ensures.writes in
     let held = eqb-false _ 0 (sym c.is_empty.ensures ∙ c.if-is_empty.false) in
     let some : 0 < length w.new.draft.bytes.items = omega (arith, held, w.new.draft.bytes.ok.0) in
@@ -51,5 +52,5 @@ returns-clause-emits c =
       cut = c.lend.ensures.cut ∙ c.is_err.ensures.value;
       control = refl;
       streams = refl;
-      leaves = (c.lend.ensures.end, c.lend.ensures.datagrams);
+      leaves = (c.lend.ensures.end, c.lend.ensures.datagrams, c.lend.ensures.counts ∙ w.ensures.counts);
     }

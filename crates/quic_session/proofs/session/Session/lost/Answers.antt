@@ -1,4 +1,4 @@
-use Rattle.std.proofs.Common.{refl, sym, ap, ◌∙◌, subst, Some, Err}
+use Rattle.std.proofs.Common.{refl, sym, ap, ◌∙◌, subst, rules, Some, Err}
 use Rattle.quic_history.specs.World.{World}
 use Rattle.quic_history.specs.History.{From}
 use Rattle.quic_streams.specs.Sent.{sent_view}
@@ -14,7 +14,7 @@ returns-in_default-clause-loses c =
     let nothing = none-there c.take.result c.in_default.not-Some in
     let stands = sym c.take.ensures.sent ∙ nothing in
     let token = c.args.token in
-    (stands, (refl, c.take.ensures.rest ∙ put-none _ token stands))
+    (stands, (refl, c.take.ensures.rest ∙ put-none _ token stands, refl))
 
 pub returns-in-Err-clause-loses : goal.returns-in-Err-clause-loses
 returns-in-Err-clause-loses c =
@@ -29,4 +29,5 @@ returns-in-Err-clause-loses c =
       kept = c.put_rest_back.ensures.kept ∙ ap (λ (f : Kept). with_payload f token (Some c.in-Err.rest)) c.take.ensures.rest ∙ put-twice _ token (Some c.in-Err.rest);
       from = λ m h f. let Q : World → Type 0 = λ w. From m (losses_told (sent_view c.in-Some.payload) (Err (sent_view c.in-Err.rest)) h) w in
           subst Q (sym (ap (λ x. x.streams) now)) (c.in-Err.ensures.from m h f);
+      counts = search rules;
     })

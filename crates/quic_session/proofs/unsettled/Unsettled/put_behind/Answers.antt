@@ -12,6 +12,7 @@ returns c =
     let u = c.args.self.now in
     record {
       is_next = refl;
+      positive = omega (arith, u.begun, u.in_turn.0);
       new = λ below. none-behind u.first u.next u.places.items c.requires.next u.next (omega arith);
       below = λ below. none-behind u.first u.next u.places.items c.requires.next;
       kept = λ i. λ q. (ap (λ l. at_token u.first l q) c.push_back_reserved.ensures.items ∙ put-behind u.first u.next u.places.items (Some c.args.sent) c.requires.next q) i;

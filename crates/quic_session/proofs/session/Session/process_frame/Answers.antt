@@ -4,7 +4,7 @@ use Rattle.quic_endpoint.specs.Receiving.{with_call_made}
 use Rattle.quic_endpoint.specs.Shown.{endpoint_view}
 use Rattle.quic_session.specs.Sessions.{end_of}
 use Rattle.quic_session.proofs.Directed.{directed-call, misdirected-stays}
-use Rattle.quic_session.proofs.session.Session.receive_frame.Goals as goal
+use Rattle.quic_session.proofs.session.Session.process_frame.Goals as goal
 
 pub returns-in-Err : goal.returns-in-Err
 returns-in-Err c =

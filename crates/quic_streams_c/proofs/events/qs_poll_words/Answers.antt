@@ -1,5 +1,5 @@
 use Rattle.std.proofs.Common.{refl, w32, to_z-of_z}
-use Rattle.quic_streams_c.proofs.connection.qs_poll.Goals as goal
+use Rattle.quic_streams_c.proofs.events.qs_poll_words.Goals as goal
 
 pub returns-in-None : goal.returns-in-None
 returns-in-None c = rw c.in-None.ensures.taken (refl, c.take_out.ensures.closed, refl)

@@ -1,0 +1,8 @@
+use Rattle.std.proofs.Common.{refl, w32, to_z-of_z}
+use Rattle.quic_streams_c.proofs.users.qs_stream_user.Goals as goal
+
+pub returns-in-None : goal.returns-in-None
+returns-in-None c = rw c.in-None.ensures.taken (refl, c.take_out.ensures.closed, refl)
+
+pub returns-in-Some : goal.returns-in-Some
+returns-in-Some c = rw (c.in-Some.ensures.taken, c.holding.ensures) (refl, simp (to_z-of_z {w = w32} {z = c.tell_user-code.result} (record { sfits = c.tell_user-code.type_inv })) (rw c.deref.ensures at c.tell_user-code.ensures))

@@ -1,0 +1,11 @@
+use Rattle.std.proofs.Common.{refl, w32, to_z-of_z}
+use Rattle.quic_streams_c.proofs.Calls.{number-refused, number-given}
+use Rattle.quic_streams_c.proofs.users.tell_user.Goals as goal
+
+pub returns-in_default : goal.returns-in_default
+returns-in_default c = number-refused c.stream_of.result _ _ _ c.stream_of.ensures c.in_default.not-Some (refl, refl)
+
+pub returns : goal.returns
+returns c =
+    let p = c.user.ensures in
+    number-given c.in-Some.id _ _ _ c.in-Some.ensures (c.user.result, record { word = p.word; known = p.known; unknown = p.unknown }, simp (to_z-of_z {w = w32} {z = c.put_user.result} (record { sfits = c.put_user.type_inv })) c.put_user.ensures)
