@@ -22,8 +22,6 @@ class Datagrams:
     def __init__(self, limits):
         self.limits = limits
         self.incoming, self.outgoing = collections.deque(), collections.deque()
-        # one that was received, and was too long for the buffer of the application
-        self.waiting = None
         # whether `send` found no room, and whether the events are due
         self.is_blocked = False
         self.is_one_due = False
@@ -89,14 +87,12 @@ class Datagrams:
         self.accepted[data] += 1
 
     def receive(self, room):
-        """What the application reads into a buffer with so much room."""
-        if self.waiting is None:
-            if not self.incoming:
-                return "none"
-            self.waiting = self.incoming.popleft()
-        if len(self.waiting) > room:
-            return f"small {len(self.waiting)}"
-        data, self.waiting = self.waiting, None
+        """What the application reads into a buffer with so much room. One that is longer stays the oldest."""
+        if not self.incoming:
+            return "none"
+        if len(self.incoming[0]) > room:
+            return f"small {len(self.incoming[0])}"
+        data = self.incoming.popleft()
         self.given[data] += 1
         return f"datagram {data.hex() or '-'}"
 

@@ -18,7 +18,7 @@ class EarlyModel(Model):
     def refusal(self, verb, fields):
         if verb in DECISIONS:
             return self.refusal_of_decision(verb)
-        if not self.is_decided and (verb == "deliver" or fields[0] == "b"):
+        if not self.is_decided and (verb in ("deliver", "deliver-all") or fields[0] == "b"):
             return "Undecided"
         return super().refusal(verb, fields)
 

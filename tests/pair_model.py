@@ -1,8 +1,8 @@
 """A model of two ends and the network between them, as `streampair` has them. It keeps what was written, sent,
 delivered, acknowledged and read, and knows by docs/rules.md and RFC 9000 how each line may be answered."""
-import bisect
 import collections
 
+from frame_bytes import GREATEST_NUMBER
 from frames import (
     DIRECTIONS,
     GREATEST_HEAD,
@@ -19,6 +19,7 @@ from frames import (
     check_same,
 )
 from limits_model import Remote, limits_of
+from stream_halves import ReceiveHalf, SendHalf
 
 ENDS = ("a", "b")
 OTHER = {"a": "b", "b": "a"}
@@ -80,152 +81,6 @@ class Payload:
     def is_accepted(self):
         return all(sent.accepted for sent in self.sent)
 
-# ---- the two halves of a stream
-
-UNSENT, SENT, LOST, ACKNOWLEDGED = range(4)
-AFTER_LOSS = bytes.maketrans(bytes([SENT]), bytes([LOST]))
-
-
-class SendHalf:
-    """What one end sends on a stream (RFC 9000 section 3.1)."""
-
-    def __init__(self, limit):
-        self.limit = limit
-        self.written = bytearray()
-        # the state of each byte, and the offsets at which pieces of writes end
-        self.fates = bytearray()
-        self.cuts = [0]
-        self.finished = False
-        self.end_sent = False
-        self.end_acknowledged = False
-        self.reset = None
-        # how many RESET_STREAM frames have to be sent
-        self.resets_due = 0
-        self.stopped = None
-        self.freed = False
-
-    def is_over(self):
-        return self.finished or self.reset is not None
-
-    def is_held_for_data(self):
-        return not self.freed and self.reset is None
-
-    def write(self, pieces):
-        for piece in filter(None, pieces):
-            self.written += piece
-            self.cuts.append(len(self.written))
-        self.fates.extend(bytes([UNSENT]) * (len(self.written) - len(self.fates)))
-
-    def retained(self):
-        """How many bytes are retained: those of the pieces that the acknowledged prefix does not cover wholly."""
-        if not self.is_held_for_data():
-            return 0
-        prefix = len(self.fates) - len(self.fates.lstrip(bytes([ACKNOWLEDGED])))
-        return len(self.written) - self.cuts[bisect.bisect_right(self.cuts, prefix) - 1]
-
-    def has_rest(self):
-        """Whether bytes or the end have to be sent."""
-        if not self.is_held_for_data():
-            return False
-        end = self.finished and not self.end_sent and not self.end_acknowledged
-        return end or UNSENT in self.fates or LOST in self.fates
-
-    def next_offset(self):
-        """The lowest offset that is lost or, where none is, the lowest that was never sent."""
-        for fate in (LOST, UNSENT):
-            if fate in self.fates:
-                return self.fates.index(fate)
-        return len(self.written)
-
-    def send(self, frame):
-        end = frame.offset + len(frame.data)
-        check(self.is_held_for_data(), "a frame of a stream that was given up, or is done")
-        check(end <= len(self.written), "a frame behind what was written")
-        check_same(frame.data, bytes(self.written[frame.offset : end]))
-        check_same(frame.fin, self.finished and end == len(self.written))
-        check_same(frame.offset, self.next_offset())
-        check(len(set(self.fates[frame.offset : end])) <= 1, "bytes are sent with others that were not lost")
-        self.fates[frame.offset : end] = bytes([SENT]) * len(frame.data)
-        self.end_sent = self.end_sent or frame.fin
-
-    def lose(self, frame):
-        end = frame.offset + len(frame.data)
-        self.fates[frame.offset : end] = self.fates[frame.offset : end].translate(AFTER_LOSS)
-        self.end_sent = self.end_sent and not frame.fin
-
-    def acknowledge(self, frame):
-        end = frame.offset + len(frame.data)
-        self.fates[frame.offset : end] = bytes([ACKNOWLEDGED]) * len(frame.data)
-        self.end_acknowledged = self.end_acknowledged or frame.fin
-
-    def send_again(self):
-        """All that was sent has to be sent again."""
-        self.fates = bytearray([UNSENT]) * len(self.fates)
-        self.end_sent = False
-
-    def is_acknowledged(self):
-        return self.end_acknowledged and self.fates.count(ACKNOWLEDGED) == len(self.fates)
-
-
-class ReceiveHalf:
-    """What one end receives on a stream (RFC 9000 section 3.2)."""
-
-    def __init__(self, window):
-        # the last limit that was announced
-        self.limit_sent = window
-        # for each offset, whether its byte arrived, and whether it was read
-        self.arrived = bytearray()
-        self.given = bytearray()
-        self.highest = 0
-        self.final_size = None
-        self.reset = None
-        self.read = 0
-        # how many bytes ordered reads gave
-        self.ordered = 0
-        self.unordered = False
-        self.stop = None
-        # how many STOP_SENDING frames have to be sent
-        self.stops_due = 0
-        # whether the end or the reset was told
-        self.told = False
-
-    def is_closed(self):
-        return self.stop is not None or self.told
-
-    def is_freed(self):
-        return self.told or self.stop is not None and self.final_size is not None
-
-    def is_limit_due(self, window):
-        """Whether MAX_STREAM_DATA is due: the limit rose by an eighth of the window."""
-        can_grow = self.final_size is None and not self.is_closed()
-        return can_grow and self.read + window - self.limit_sent >= window // 8
-
-    def arrive(self, offset, end):
-        more = bytes(max(end - len(self.arrived), 0))
-        self.arrived += more
-        self.given += more
-        self.arrived[offset:end] = b"\1" * (end - offset)
-
-    def give(self, offset, data, ordered, written):
-        end = offset + len(data)
-        check_same(data, bytes(written[offset:end]))
-        check(0 not in self.arrived[offset:end] and end <= len(self.arrived), "bytes are read that did not come")
-        check(1 not in self.given[offset:end], "bytes are read twice")
-        if ordered:
-            check_same(offset, self.ordered)
-            self.ordered = end
-        self.given[offset:end] = b"\1" * len(data)
-        self.read += len(data)
-
-    def is_at_end(self):
-        return self.final_size is not None and self.given.count(1) == self.final_size
-
-    def has_more(self, ordered):
-        """Whether there is a byte to read next."""
-        if ordered:
-            return self.ordered < len(self.arrived) and self.arrived[self.ordered] == 1
-        return self.arrived.count(1) > self.given.count(1)
-
 
 def unreadable(half, ordered):
     """The reason why a receive half, or one that is not there, may not be read, or None."""
@@ -285,10 +140,12 @@ class End:
         """Whether any of these have, or those that a part of a payload is for."""
         return part != "control" and self.has_data() or part != "streams" and self.has_control()
 
+    def bytes_written(self):
+        return sum(len(half.written) for half in self.send.values())
+
     def write_room(self):
-        written = sum(len(half.written) for half in self.send.values())
         retained = sum(half.retained() for half in self.send.values())
-        return min(self.limit - written, self.send_window - retained)
+        return min(self.limit - self.bytes_written(), self.send_window - retained)
 
     def block(self, id):
         if id not in self.blocked:
@@ -317,13 +174,22 @@ class End:
         return [(direction, self.remote[direction]) for direction in DIRECTIONS]
 
     def is_credit_due(self):
-        """Whether MAX_DATA is due: the limit rose by an eighth of the window."""
-        return self.credit >= self.credit_sent + self.receive_window // 8
+        """Whether MAX_DATA is due: the limit rose by an eighth of the window. Above the greatest number there is no more to say."""
+        return self.credit <= GREATEST_NUMBER and self.credit >= self.credit_sent + self.receive_window // 8
 
-    def has_news(self, half):
+    def stream_limit(self, id):
+        """The limit that a stream has now."""
+        return min(self.receive[id].read + self.stream_window, GREATEST_NUMBER)
+
+    def is_limit_due(self, id):
+        """Whether MAX_STREAM_DATA is due: the limit rose by an eighth of the window."""
+        half = self.receive[id]
+        return half.goes_on() and self.stream_limit(id) - half.limit_sent >= self.stream_window // 8
+
+    def has_news(self, id):
         """Whether a limit is due after a read of a stream."""
         is_count_due = any(remote.is_count_due() for remote in self.remote.values())
-        return is_count_due or self.is_credit_due() or half.is_limit_due(self.stream_window)
+        return is_count_due or self.is_credit_due() or self.is_limit_due(id)
 
     def consume(self, count):
         """Consumed bytes first pay what is owed since the window was made smaller, and then raise the limit."""
@@ -336,10 +202,14 @@ class End:
         self.debt += max(self.receive_window - window, 0)
         self.receive_window = window
 
-    def free_if_over(self, id):
-        """A stream that the peer opened is over once both its halves are freed."""
+    def is_over(self, id):
+        """Whether both halves of a stream are freed, those that it has (RFC 9000 sections 3.1 and 3.2)."""
         sends, receives = self.send.get(id), self.receive.get(id)
-        if opener_of(id) != self.name and receives.is_freed() and (sends is None or sends.freed):
+        return (sends is None or sends.freed) and (receives is None or receives.is_freed())
+
+    def free_if_over(self, id):
+        """Frees a stream that the peer opened, once it is over."""
+        if opener_of(id) != self.name and self.is_over(id):
             self.remote[direction_of(id)].free(id)
 
     def free(self, id):
@@ -489,13 +359,13 @@ class End:
         check_same(frame.code, half.stop)
 
     def emit_limit(self, frame):
-        check_same(frame.limit, self.credit)
+        check_same(frame.limit, min(self.credit, GREATEST_NUMBER))
         self.credit_sent = frame.limit
 
     def emit_stream_limit(self, frame):
         half = self.receive[frame.id]
-        check(half.final_size is None and half.stop is None, "a limit where no more is to come")
-        check_same(frame.limit, half.read + self.stream_window)
+        check(half.goes_on(), "a limit where no more is to come")
+        check_same(frame.limit, self.stream_limit(frame.id))
         half.limit_sent = frame.limit
 
     def emit_count(self, frame):
@@ -562,6 +432,8 @@ class Model:
             return None if int(fields[1]) in self.ends[fields[0]].known else "UnknownId"
         if verb == "deliver":
             return self.refusal_of_frame(*map(int, fields))
+        if verb == "deliver-all":
+            return None if self.is_there(int(fields[0])) else "NoSuchPayload"
         if verb in ("lose", "ack"):
             return self.refusal_of_report(verb, *map(int, fields))
         return None
@@ -717,7 +589,7 @@ class Model:
         for chunk in chunks[:count]:
             self.take_chunk(end, id, ordered, int(most), chunk)
         self.take_last(end, id, ordered, " ".join(chunks[count:]), count == int(times))
-        wanted = "transmit" if end.has_news(half) else "quiet"
+        wanted = "transmit" if end.has_news(id) else "quiet"
         self.tally[wanted] += 1
         check_same(transmit, wanted)
 
@@ -783,6 +655,14 @@ class Model:
         transmits = self.ends[OTHER[payload.writer]].accept(sent.frame)
         self.tally["credit at once"] += transmits
         return "ok transmit" if transmits else "ok"
+
+    def deliver_all(self, number):
+        """A whole payload: its frames in their order. Each is accepted, since the other end sent it."""
+        frames = len(self.payloads[int(number)].sent)
+        for index in range(frames):
+            self.deliver(number, index)
+        self.tally["payload of many frames"] += frames > 1
+        return f"accepted {frames}"
 
     def lose(self, number):
         payload = self.payloads[int(number)]

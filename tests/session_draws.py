@@ -33,7 +33,7 @@ class SessionDraws(Draws):
         self.greatest_datagram = {name: self.greatest_for(windows[OTHER[name]]) for name in ENDS}
         datagrams = {name: self.datagram_limits(name, windows[name]) for name in ENDS}
         remembered = [self.remember(it) for it in limits_of(configs["b"])] if self.once_in(4) else None
-        self.plan = Plan(configs, datagrams, remembered)
+        self.plan = Plan(configs, datagrams, remembered, {name: not self.once_in(4) for name in ENDS})
         # the steps that decide on 0-RTT, where it is not decided
         self.decisions = list(self.of(("early-accept",), ("early-reject",), ("retry", "early-accept"), ("retry", "early-reject"), ()))
         self.model = model(self.plan, tally)
@@ -70,7 +70,7 @@ class SessionDraws(Draws):
         lines = []
         for name in ENDS:
             receive, send, _ = self.plan.datagrams[name]
-            numbers = [*self.plan.configs[name], "off" if receive is None else receive, send]
+            numbers = [*self.plan.configs[name], "off" if receive is None else receive, send, int(self.plan.tracks[name])]
             lines.append(" ".join(map(str, ["config", name, *numbers])))
         remembered = self.plan.remembered
         lines.append(f"limits a {self.given_fields('a') if remembered is None else self.limit_fields('a', remembered)}")
@@ -154,10 +154,13 @@ class SessionDraws(Draws):
         return f"read {name} {id} {'o' if is_ordered else 'u'} {self.of(0, 1, 7, 50, 50, 1000, 1000, 1000)}"
 
     def seldom(self, name):
-        if self.once_in(4):
+        if self.once_in(3):
             return self.of(
                 lambda: f"priority-of {name} {self.stream(name)}",
                 lambda: f"stopped {name} {self.stream(name)}",
+                lambda: f"room {name} {self.stream(name)}",
+                lambda: f"user {name} {self.stream(name)}",
+                lambda: f"set-user {name} {self.stream(name)} {self.of(1, 7, 2**64 - 1)}",
             )()
         return super().seldom(name)
 
@@ -172,7 +175,7 @@ class SessionDraws(Draws):
 
     def datagram(self, name):
         it = self.model.datagrams[name]
-        if (it.incoming or it.waiting is not None) and not self.once_in(3):
+        if it.incoming and not self.once_in(3):
             return f"datagram-recv {name} {self.of(0, 5, 30, 1200, 1200, 1200)}"
         if self.once_in(6):
             return self.datagram_setting(name)
@@ -245,7 +248,8 @@ class SessionDraws(Draws):
             return all(it.settled for it in payloads)
         if draw is Draws.poll:
             opened = any(it.is_opening_due for it in end.remote.values())
-            return not (end.events or opened or datagrams.is_one_due or datagrams.is_room_due)
+            over = any(map(end.is_over, end.users))
+            return not (end.events or opened or over or datagrams.is_one_due or datagrams.is_room_due)
         if draw is Draws.open:
             return all(end.opened[it] == end.counts[it] for it in DIRECTIONS)
         if draw is SessionDraws.accept:

@@ -2,20 +2,9 @@
 streams have their turns, and so the very bytes of the next payload (docs/rules.md; RFC 9000 sections 4, 13.3 and 19)."""
 import collections
 
+import frames
 from frame_bytes import GREATEST_NUMBER, size_of
-from frames import (
-    DIRECTIONS,
-    GREATEST_HEAD,
-    DataBlocked,
-    MaxData,
-    MaxStreamData,
-    MaxStreams,
-    ResetStream,
-    StopSending,
-    Stream,
-    StreamDataBlocked,
-)
-from pair_model import LOST, UNSENT, End, direction_of, opener_of
+from pair_model import End, direction_of, opener_of
 from pending_model import GREATEST, Pending, Turns, take_wished
 
 # What is kept free for the length of a STREAM frame.
@@ -28,6 +17,9 @@ MOST_STREAMS = 2**60
 class SessionEnd(End):
     """One end of a session."""
 
+    # whether the host's words of streams are kept, and streams that are over are told
+    tracks = False
+
     def __init__(self, name, config, limits):
         super().__init__(name, config, limits)
         self.begin_anew()
@@ -35,6 +27,8 @@ class SessionEnd(End):
     def begin_anew(self):
         """Nothing is pending."""
         self.pending, self.turns = Pending(), Turns()
+        # the host's word of each stream that it was given and of which it was not told that it is over
+        self.users = {}
         self.priorities = collections.Counter()
         # for which limits DATA_BLOCKED and STREAM_DATA_BLOCKED were queued
         self.blocked_at, self.stream_blocked_at = None, {}
@@ -46,8 +40,7 @@ class SessionEnd(End):
 
     def is_due(self, id):
         """Whether bytes or the end of a stream are to be sent."""
-        half = self.send[id]
-        return self.is_held(id) and (UNSENT in half.fates or LOST in half.fates or half.finished and not half.end_sent)
+        return self.send[id].has_rest()
 
     def queue(self, id, was_due):
         """Queues a stream that had nothing to send."""
@@ -57,37 +50,43 @@ class SessionEnd(End):
     def can_send_data(self):
         return any(self.is_held(id) for id in self.turns.ids())
 
+    # -- streams that are over
+
+    def know(self, id):
+        """The host was given a stream."""
+        if self.tracks:
+            self.users[id] = 0
+
+    def next_closed(self, hint):
+        """That a stream is over. The order between several is not said: it is that of the hint, if that is one of them."""
+        over = {f"closed {id} user {user}": id for id, user in self.users.items() if self.is_over(id)}
+        if not over:
+            return "none"
+        event = hint if hint in over else next(iter(over))
+        del self.users[over[event]]
+        return event
+
     # -- pending frames
 
     def queue_counts(self):
         """Queues MAX_STREAMS where it is due."""
         self.pending.counts.update(direction for direction, remote in self.remote.items() if remote.is_count_due())
 
-    def is_credit_due(self):
-        """Above the greatest number there is no more to say."""
-        return self.credit <= GREATEST_NUMBER and super().is_credit_due()
-
     def queue_credit(self):
         if self.is_credit_due():
             self.pending.credit = True
 
-    def stream_limit(self, id):
-        """The limit that a stream has now."""
-        return min(self.receive[id].read + self.stream_window, GREATEST_NUMBER)
-
     def note_read(self, id):
         """A read is done: limits that rose are to be sent."""
         self.queue_credit()
-        gain = self.stream_limit(id) - self.receive[id].limit_sent
-        if self.is_limit_of_use(id) and gain >= self.stream_window // 8:
+        if self.is_limit_due(id):
             self.pending.add_stream(self.pending.stream_limits, id)
         self.queue_counts()
 
     def note_blocked(self, id):
         """A write found the connection or the send window without room."""
         self.block(id)
-        written = sum(len(half.written) for half in self.send.values())
-        if self.limit == written and self.blocked_at != self.limit:
+        if self.limit == self.bytes_written() and self.blocked_at != self.limit:
             self.blocked_at, self.pending.data_blocked = self.limit, True
 
     def note_stream_blocked(self, id):
@@ -97,8 +96,7 @@ class SessionEnd(End):
             self.pending.add_stream(self.pending.streams_blocked, id)
 
     def is_limit_of_use(self, id):
-        half = self.receive.get(id)
-        return half is not None and half.final_size is None and not half.is_closed()
+        return id in self.receive and self.receive[id].goes_on()
 
     def is_blocked_of_use(self, id):
         half = self.send[id]
@@ -114,50 +112,44 @@ class SessionEnd(End):
 
     # -- the writers
 
-    def emit_limit(self, frame):
-        self.credit_sent = frame.limit
-
-    def emit_stream_limit(self, frame):
-        self.receive[frame.id].limit_sent = frame.limit
-
     def put(self, draft, frame):
         """Writes a frame, which has to be true as well."""
         self.emit(frame)
         draft.put(frame)
 
     def write_resets(self, draft):
-        while self.pending.resets and draft.has_room(GREATEST[ResetStream]):
+        while self.pending.resets and draft.has_room(GREATEST[frames.ResetStream]):
             half = self.send[id := self.pending.resets.pop()]
             if not half.freed:
-                self.put(draft, ResetStream(id, half.reset, len(half.written)))
-        while self.pending.stops and draft.has_room(GREATEST[StopSending]):
+                self.put(draft, frames.ResetStream(id, half.reset, len(half.written)))
+        while self.pending.stops and draft.has_room(GREATEST[frames.StopSending]):
             id = self.pending.stops.pop()
-            self.put(draft, StopSending(id, self.receive[id].stop))
+            self.put(draft, frames.StopSending(id, self.receive[id].stop))
 
     def write_limits(self, draft, wishes):
         it = self.pending
-        if it.credit and draft.has_room(GREATEST[MaxData]):
+        if it.credit and draft.has_room(GREATEST[frames.MaxData]):
             it.credit = False
-            self.put(draft, MaxData(min(self.credit, GREATEST_NUMBER)))
-        while it.stream_limits and draft.has_room(GREATEST[MaxStreamData]):
-            id = take_wished(it.stream_limits, wishes[MaxStreamData])
+            self.put(draft, frames.MaxData(min(self.credit, GREATEST_NUMBER)))
+        while it.stream_limits and draft.has_room(GREATEST[frames.MaxStreamData]):
+            id = take_wished(it.stream_limits, wishes[frames.MaxStreamData])
             if self.is_limit_of_use(id):
-                self.put(draft, MaxStreamData(id, self.stream_limit(id)))
-        for direction in DIRECTIONS:
-            if direction in it.counts and draft.has_room(GREATEST[MaxStreams]):
+                self.put(draft, frames.MaxStreamData(id, self.stream_limit(id)))
+        for direction in frames.DIRECTIONS:
+            if direction in it.counts and draft.has_room(GREATEST[frames.MaxStreams]):
                 it.counts.remove(direction)
-                self.put(draft, MaxStreams(direction, self.remote[direction].permitted))
+                self.put(draft, frames.MaxStreams(direction, self.remote[direction].permitted))
 
     def write_blocked(self, draft, wishes):
         it = self.pending
-        if it.data_blocked and draft.has_room(GREATEST[DataBlocked]):
+        if it.data_blocked and draft.has_room(GREATEST[frames.DataBlocked]):
             it.data_blocked = False
             if self.blocked_at == self.limit:
-                self.put(draft, DataBlocked(self.limit))
-        while it.streams_blocked and draft.has_room(GREATEST[StreamDataBlocked]):
-            id = take_wished(it.streams_blocked, wishes[StreamDataBlocked])
+                self.put(draft, frames.DataBlocked(self.limit))
+        while it.streams_blocked and draft.has_room(GREATEST[frames.StreamDataBlocked]):
+            id = take_wished(it.streams_blocked, wishes[frames.StreamDataBlocked])
             if self.is_blocked_of_use(id):
-                self.put(draft, StreamDataBlocked(id, self.send[id].limit))
+                self.put(draft, frames.StreamDataBlocked(id, self.send[id].limit))
 
     def write_control(self, draft, wishes):
         """Writes pending control frames. The wishes say in which order streams come that have none."""
@@ -175,10 +167,10 @@ class SessionEnd(End):
         has_length = end - start < room
         end = min(end, start + room - (ROOM_FOR_LENGTH if has_length else 0))
         fin = half.finished and end == len(half.written)
-        return Stream(id, start, bytes(half.written[start:end]), fin, has_length)
+        return frames.Stream(id, start, bytes(half.written[start:end]), fin, has_length)
 
     def write_streams(self, draft, is_fair):
-        while draft.has_room(GREATEST_HEAD):
+        while draft.has_room(frames.GREATEST_HEAD):
             id = self.turns.pop()
             if id is None:
                 return
@@ -193,7 +185,7 @@ class SessionEnd(End):
     # -- reports
 
     def lose(self, frame):
-        if isinstance(frame, Stream):
+        if isinstance(frame, frames.Stream):
             if self.is_held(frame.id):
                 was_due = self.is_due(frame.id)
                 super().lose(frame)
@@ -232,14 +224,14 @@ class SessionEnd(End):
 
     def refusal_of(self, frame):
         """The code of the error that a frame of the peer is, or None."""
-        if isinstance(frame, (Stream, ResetStream)):
+        if isinstance(frame, (frames.Stream, frames.ResetStream)):
             wrong = self.refusal_of_id(frame.id, is_sent_here=False, is_read_here=True)
-            return wrong or (self.refusal_of_data(frame) if isinstance(frame, Stream) else None)
-        if isinstance(frame, (StopSending, MaxStreamData)):
+            return wrong or (self.refusal_of_data(frame) if isinstance(frame, frames.Stream) else None)
+        if isinstance(frame, (frames.StopSending, frames.MaxStreamData)):
             return self.refusal_of_id(frame.id, is_sent_here=True, is_read_here=False)
-        if isinstance(frame, StreamDataBlocked):
+        if isinstance(frame, frames.StreamDataBlocked):
             is_own_bi = opener_of(frame.id) == self.name and direction_of(frame.id) == "bi"
             return None if is_own_bi else self.refusal_of_id(frame.id, is_sent_here=False, is_read_here=True)
-        if isinstance(frame, MaxStreams):
+        if isinstance(frame, frames.MaxStreams):
             return FRAME_ENCODING if frame.count > MOST_STREAMS else None
         return None

@@ -14,12 +14,17 @@ from stream_calls import StreamCalls
 CONTROL, DATAGRAMS, STREAMS, ALL_PARTS = 1, 2, 4, 7
 PROTOCOL_VIOLATION = 10
 # Calls on a stream, which answer `closed` where the application was not given the stream
-ON_STREAMS = {"write", "finish", "reset", "stop", "priority", "priority-of", "stopped", "received-reset", "read", "read-many", "read-lent"}
+ON_STREAMS = {
+    "write", "finish", "reset", "stop", "priority", "priority-of", "stopped", "received-reset", "room", "user", "set-user",
+    "read", "read-many", "read-lent",
+}
 READS = {"read", "read-many", "read-lent"}
+# Events that have a stream, and with it the host's word for the stream
+STREAM_EVENTS = {"readable", "writable", "finished", "stopped"}
 
 # How a session begins: for each end its config as in `streampair`, what it permits of datagrams, and the limits that the client
-# remembers, or None
-Plan = collections.namedtuple("Plan", "configs datagrams remembered")
+# remembers, or None; and for each end whether it tracks its streams
+Plan = collections.namedtuple("Plan", "configs datagrams remembered tracks")
 
 
 class SentPayload(Payload):
@@ -65,6 +70,8 @@ class SessionModel(StreamCalls):
         super().__init__(plan.configs, plan.remembered, tally)
         self.datagrams = {name: Datagrams(plan.datagrams[name]) for name in ENDS}
         self.datagrams_sent = {name: set() for name in ENDS}
+        for name, end in self.ends.items():
+            end.tracks = plan.tracks[name]
 
     def take(self, line, reply):
         """Takes a call with what it returned. Raises AssertionError where that is wrong."""
@@ -228,8 +235,12 @@ class SessionModel(StreamCalls):
             event = datagrams.take_event(self.hint)
             if event:
                 return event
-        event = self.ends[name].next_event()
-        return event if event != "none" else datagrams.take_event("datagram") or "none"
+        end = self.ends[name]
+        event = end.next_event()
+        if event == "none":
+            return datagrams.take_event("datagram") or end.next_closed(self.hint)
+        word, *fields = event.split(" ")
+        return f"{event} user {end.users.get(int(fields[0]), 0)}" if word in STREAM_EVENTS else event
 
     def due(self, name):
         end = self.ends[name]

@@ -36,23 +36,36 @@ class StreamCalls(EarlyModel):
         reply = super().open(name, direction)
         if reply != "none":
             self.ends[name].priorities.pop(int(reply[3:]), None)
+            self.ends[name].know(int(reply[3:]))
         return reply
+
+    def accept(self, name, direction):
+        reply = super().accept(name, direction)
+        if reply != "none":
+            self.ends[name].know(int(reply[3:]))
+        return reply
+
+    def set_user(self, name, id, user):
+        if int(id) not in self.ends[name].users:
+            return "closed"
+        self.ends[name].users[int(id)] = int(user)
+        return "ok"
+
+    def user(self, name, id):
+        users = self.ends[name].users
+        return f"user {users[int(id)]}" if int(id) in users else "closed"
 
     def is_held(self, name, id):
         half = self.ends[name].send.get(int(id))
         return half is not None and not half.freed
 
     def write(self, name, id, field):
-        end, id, data = self.ends[name], int(id), bytes_of(field)
-        why_not = self.unwritable(end, id)
-        if why_not:
-            return why_not
-        half = end.send[id]
-        was_due = end.is_due(id)
-        count = min(len(data), end.write_room(), half.limit - len(half.written))
-        half.write([data[:count]])
-        end.queue(id, was_due)
-        return f"wrote {count}"
+        end = self.ends[name]
+        was_due = self.is_held(name, id) and end.is_due(int(id))
+        reply = super().write(name, id, field)
+        if reply.startswith("wrote"):
+            end.queue(int(id), was_due)
+        return reply
 
     def unwritable(self, end, id):
         """Why nothing may be written, if there is a reason. The reasons are looked for in this order, but a stop is told before a block."""
@@ -72,6 +85,16 @@ class StreamCalls(EarlyModel):
             end.note_stream_blocked(id)
             return blocked
         return None
+
+    def room(self, name, id):
+        """How many bytes one write takes now. Where there is no room for any stream, it does not matter that the stream is finished."""
+        end, half = self.ends[name], self.ends[name].send.get(int(id))
+        if name in self.closing:
+            return "room 0"
+        if not self.is_held(name, id) or half.is_over() and end.write_room() > 0:
+            return "closed"
+        room = 0 if half.stopped is not None else min(end.write_room(), half.limit - len(half.written))
+        return f"room {max(room, 0)}"
 
     def writev(self, name, id, pieces, fin):
         """Several writes one after another, each until it is done, and then a finish."""

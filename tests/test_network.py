@@ -114,26 +114,50 @@ class ManyFrames(Sessions):
         self.gives_all([*self.writers(), *self.network(), *self.readers()])
 
     def small_payloads(self, count):
-        """Payloads of one frame without a length, which fills the payload."""
+        """Payloads of one frame without a length, which fills the payload. Returns the offset behind the last."""
         offset = 0
         for number in range(count):
             head = f"0c02{var_int(offset)}" if offset else "0802"
             size = 26 - len(head) // 2
             yield "emit a 26 f", f"payload {number} {head}{'07' * size}"
             offset += size
+        return offset
+
+    def too_many_pieces(self, last):
+        """As many pieces are held as may be; the payload `last` has one more. Returns the offset behind it."""
+        yield "open a uni", "id 2"
+        yield f"write a 2 {'07' * self.WRITTEN}", f"wrote {self.WRITTEN}"
+        offset = yield from self.small_payloads(last + 1)
+        for number in range(1, last, 2):
+            yield f"deliver {number} 0", "ok"
+        return offset
 
     def test_too_many_pieces_are_a_fault(self):
         last = 2 * self.PIECES + 1
         self.gives_all(
             [
-                ("open a uni", "id 2"),
-                (f"write a 2 {'07' * self.WRITTEN}", f"wrote {self.WRITTEN}"),
-                *self.small_payloads(last + 1),
-                *((f"deliver {number} 0", "ok") for number in range(1, last, 2)),
+                *self.too_many_pieces(last),
                 (f"deliver {last} 0", "error INTERNAL_ERROR"),
                 (f"ack {last}", "refused 3 NotAccepted"),
             ]
         )
+
+    def whole_payloads(self, last):
+        """Payloads that are handed in whole: one whose only frame is rejected, and one whose first of two is accepted."""
+        offset = yield from self.too_many_pieces(last)
+        yield f"deliver-all {last}", "accepted 0 INTERNAL_ERROR"
+        yield "open a uni", "id 6"
+        yield "priority a 6 1", "ok"
+        yield "write a 6 61", "wrote 1"
+        yield "emit a 40 f", f"payload {last + 1} 0a0601610c02{var_int(offset)}{'07' * 30}"
+        yield f"deliver-all {last + 1}", "accepted 1 INTERNAL_ERROR"
+        yield f"ack {last + 1}", "refused 3 NotAccepted"
+        yield "accept b uni", "id 2"
+        yield "accept b uni", "id 6"
+        yield "read b 6 o 100 9", "0:61 blocked quiet"
+
+    def test_a_whole_payload_is_accepted_up_to_a_fault(self):
+        self.gives_all(list(self.whole_payloads(2 * self.PIECES + 1)))
 
 
 class Progress:

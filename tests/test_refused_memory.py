@@ -53,7 +53,7 @@ class RefusedMemory(unittest.TestCase):
         self.assertEqual(check.tally["sessions"], len(files) + 2 + len(SEEDS))
         for name in ("in a step", "at the second line", "at the third line", "outside a step", "CompactionMemory", "in a step that can do without"):
             self.assertGreater(check.tally[name], 0, name)
-        for verb in ("emit", "emit-part", "read", "write", "deliver", "chunks", "open", "retry", "early-accept"):
+        for verb in ("emit", "emit-part", "read", "write", "deliver", "deliver-all", "chunks", "open", "retry", "early-accept"):
             self.assertGreater(check.tally[f"in {verb}"], 0, verb)
         self.assertGreater(check.tally["steps whose requests were counted"], 1000)
 

@@ -213,6 +213,15 @@ class DrawsOfParts(Draws):
         return line if is_whole else f"emit-part {line[5:]} {self.of('control', 'streams')}"
 
 
+class DrawsOfWholes(Draws):
+    """The same, where most payloads are handed in whole."""
+
+    def line(self, step):
+        line = super().line(step)
+        is_frame = not line.startswith("deliver ") or self.once_in(3)
+        return line if is_frame else f"deliver-all {line.split(' ')[1]}"
+
+
 class Program:
     """A running `streampair`, which answers each line at once."""
 
@@ -279,6 +288,13 @@ class SeededSessions(unittest.TestCase):
         for seed in range(SESSIONS):
             run_session(seed, tally, DrawsOfParts)
         for kind, least in (LEAST | {"control alone": 1000, "streams alone": 1000}).items():
+            self.assertGreater(tally[kind], least, kind)
+
+    def test_so_is_each_reply_where_payloads_are_handed_in_whole(self):
+        tally = collections.Counter()
+        for seed in range(SESSIONS):
+            run_session(seed, tally, DrawsOfWholes)
+        for kind, least in (LEAST | {"accepted": 10_000, "payload of many frames": 1000}).items():
             self.assertGreater(tally[kind], least, kind)
 
 

@@ -5,7 +5,8 @@ import random
 import unittest
 
 from frames import check, check_same
-from pair_model import ACKNOWLEDGED, ENDS, OTHER
+from pair_model import ENDS, OTHER
+from stream_halves import ACKNOWLEDGED
 from test_programs import need, run
 from test_sessions import STEPS, Draws, Program
 

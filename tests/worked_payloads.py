@@ -28,7 +28,7 @@ def plan_of(lines):
     fields = [line.split(" ") for line, _ in lines[:3]]
     configs = {name: tuple(map(int, fields[at][2:])) for at, name in enumerate(ENDS)}
     remembered = list(map(int, fields[2][2:])) if fields[2][0] == "early" else None
-    return Plan(configs, dict.fromkeys(ENDS, NO_DATAGRAMS), remembered)
+    return Plan(configs, dict.fromkeys(ENDS, NO_DATAGRAMS), remembered, dict.fromkeys(ENDS, False))
 
 
 class Worked:
@@ -46,6 +46,8 @@ class Worked:
             self.emit(reply, *fields)
         elif verb == "deliver":
             self.deliver(*map(int, fields))
+        elif verb == "deliver-all":
+            self.deliver_all(int(fields[0]))
         elif verb in ("lose", "ack"):
             self.report(verb, int(fields[0]))
         elif verb == "read":
@@ -65,6 +67,11 @@ class Worked:
     def deliver(self, number, index):
         payload = self.model.payloads[self.numbers[number]]
         self.model.accept_sent("b" if payload.writer == "a" else "a", payload.sent[index])
+
+    def deliver_all(self, number):
+        if self.numbers[number] is not None:
+            for index in range(len(self.model.payloads[self.numbers[number]].sent)):
+                self.deliver(number, index)
 
     def report(self, verb, number):
         if self.numbers[number] is not None:

@@ -76,7 +76,36 @@ class BehindForgotten(SessionModel):
             super().accept_sent(name, sent)
 
 
-WRONG_MODELS = [TwoDatagrams, OtherPayload, LeftOut, LastForgotten, OneMore, BehindForgotten]
+class OverTooEarly(SessionModel):
+    """A stream is over once its send side is gone."""
+
+    def poll(self, name):
+        end = self.ends[name]
+        end.is_over = lambda id: id in end.send and end.send[id].freed
+        try:
+            return super().poll(name)
+        finally:
+            del end.is_over
+
+
+class OtherWord(SessionModel):
+    """The word of a stream is that of the one before it."""
+
+    def set_user(self, name, id, user):
+        before = str(int(id) - 4)
+        return super().set_user(name, before if int(before) in self.ends[name].users else id, user)
+
+
+class AlwaysTracks(SessionModel):
+    """Streams are tracked although the host did not ask for it."""
+
+    def __init__(self, plan, tally):
+        super().__init__(plan, tally)
+        for end in self.ends.values():
+            end.tracks = True
+
+
+WRONG_MODELS = [TwoDatagrams, OtherPayload, LeftOut, LastForgotten, OneMore, BehindForgotten, OverTooEarly, OtherWord, AlwaysTracks]
 
 # -- hosts
 
@@ -128,8 +157,26 @@ class HandsInLess(Host):
 class OpensOneMore(Host):
     """Gives the library a stream window one byte larger than it says."""
 
-    def config(self, name, uni, bi, send, receive, stream, *datagrams):
-        return super().config(name, uni, bi, send, receive, str(int(stream) + 1), *datagrams)
+    def config(self, name, uni, bi, send, receive, stream, *others):
+        return super().config(name, uni, bi, send, receive, str(int(stream) + 1), *others)
 
 
-WRONG_HOSTS = [HandsInTwice, ReportsAnother, CutsLast, HandsInLess, OpensOneMore]
+class NeverTracks(Host):
+    """Asks for no word of its streams, but says that it did."""
+
+    def config(self, name, uni, bi, send, receive, stream, *others):
+        return super().config(name, uni, bi, send, receive, stream, *others[:2], "0")
+
+
+class PassesOverClosed(Host):
+    """Passes over each second event of a stream that is over."""
+
+    over = 0
+
+    def poll(self, name):
+        reply = super().poll(name)
+        self.over += reply.startswith("closed")
+        return super().poll(name) if reply.startswith("closed") and self.over % 2 else reply
+
+
+WRONG_HOSTS = [HandsInTwice, ReportsAnother, CutsLast, HandsInLess, OpensOneMore, NeverTracks, PassesOverClosed]

@@ -26,7 +26,7 @@ OTHER = {"a": "b", "b": "a"}
 # A report that ran out of memory is asked again; one of the other kind is refused then, and changes nothing.
 OTHER_REPORT = {"lose": "ack", "ack": "lose"}
 # How many requests for memory a step of each kind makes at most, with those to read its line and to print its reply, and
-# how many more for each part of it: a chunk that is offered or read, or a frame that is sent. A table of streams that grows
+# how many more for each part of it: a chunk that is offered or read, or a frame that is sent or accepted. A table of streams that grows
 # makes four, one for each of its lists, and there is one for each side. A step that makes more takes memory that it does not
 # need, or needs more than it did when these were counted.
 MOST_REQUESTS = {
@@ -34,6 +34,7 @@ MOST_REQUESTS = {
     "ack": (8, 0),
     "chunks": (11, 4),
     "deliver": (14, 0),
+    "deliver-all": (3, 11),
     "early": (19, 0),
     "early-accept": (5, 0),
     "early-reject": (3, 0),
@@ -58,7 +59,7 @@ MOST_REQUESTS = {
 EMITS = ("emit", "emit-part")
 # Steps that also ask for memory that they can do without: room for a whole payload at once, or for a freed stream's state to be
 # kept for the next stream. Without it the reply is the same.
-CAN_DO_WITHOUT = {*EMITS, "read", "received-reset", "stop", "deliver", "ack"}
+CAN_DO_WITHOUT = {*EMITS, "read", "received-reset", "stop", "deliver", "deliver-all", "ack"}
 # A step that is refused for one of these reasons says so, though memory for it was refused too.
 OTHER_REASON = re.compile(r"closed|stopped")
 NAMES_WANT = re.compile(r"\b(OutOfMemory|memory|CompactionMemory)\b")
@@ -282,12 +283,14 @@ def moved(lines, ample, at, reply):
 
 
 def parts_of(line, reply):
-    """How many chunks a step offers or reads, or frames it sends."""
+    """How many chunks a step offers or reads, or frames it sends or accepts."""
     verb = line.split()[0]
     if verb == "chunks":
         return line.count(",") + 1
     if verb in EMITS and reply.startswith("payload"):
         return len(frames_of(reply.split()[2]))
+    if verb == "deliver-all" and reply.startswith("accepted"):
+        return int(reply.split()[1])
     return reply.count(":") if verb == "read" else 0
 
 

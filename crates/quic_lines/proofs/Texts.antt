@@ -1,6 +1,7 @@
 -- The characters of what a line spells.
-use Rattle.std.proofs.Common.{◌≡◌, ◌∙◌, ℕ, suc, zero, ◌<◌, ◌/◌, ◌%◌, eqb, ltb, not, ◌&&◌, Bool, true, false, List, [], ◌∷◌, ◌++◌, length, map, get_or, codes, refl, sym, ap, subst, arith, lit<, ltb-true}
-use Rattle.std.specs.Prelude.{slice_index, All}
+use Rattle.std.proofs.Common.{◌≡◌, ◌∙◌, ℕ, suc, zero, ◌<◌, ◌^◌, ◌/◌, ◌%◌, eqb, ltb, not, ◌&&◌, Bool, true, false, List, [], ◌∷◌, ◌++◌, length, map, get_or, codes, refl, sym, ap, subst, arith, lit<, ltb-true}
+use Rattle.std.specs.Prelude.{slice_index, All, Option, Some, None, IfSome}
+use Rattle.std.specs.Fmt.{decimal}
 use Rattle.std.specs.List.{join_with_byte, slice_split}
 use Rattle.std.specs.Str.{IsAscii}
 use Rattle.std.proofs.lemmas.Bool.{and_parts}
@@ -21,7 +22,7 @@ use Rattle.quic_steps.specs.declared.steps.Step.TheVariants as steps
 use Rattle.quic_wire.specs.declared.Dir.{Dir}
 use Rattle.quic_wire.specs.declared.Dir.TheVariants.{Bi, Uni}
 use Rattle.quic_lines.specs.Field.{hex_form, SpellsNoBytes, SpellsNoChunks}
-use Rattle.quic_lines.specs.Grammar.{end_text, mode_text, fairness_text, part_text, step_fields, config_fields, fields_of, IsInRange, IsConfigInRange, IsEarlyInRange, early_fields, MeansStep, MeansConfig, MeansEarly, MeansSettle}
+use Rattle.quic_lines.specs.Grammar.{end_text, mode_text, fairness_text, part_text, step_fields, config_fields, fields_of, IsInRange, IsConfigInRange, IsEarlyInRange, early_fields, MeansStep, MeansConfig, MeansEarly, MeansSettle, MeansWhole}
 use Rattle.quic_lines.specs.Line.{direction_text}
 
 -- a text that is written out is ASCII
@@ -124,6 +125,10 @@ config_ascii line who config range means = line_ascii line (config_fields who co
 
 pub settle_ascii : (line : List ℕ) → MeansSettle line → IsAscii line
 settle_ascii line means = rw means (written (codes "settle") refl)
+
+pub whole_ascii : (line : List ℕ) (found : Option ℕ) → IfSome found (MeansWhole line) → IfSome found (λ payload. payload < 2 ^ 64) → IfSome found (λ payload. IsAscii line)
+whole_ascii line None means small = tt
+whole_ascii line (Some payload) means small = rw means (appended (codes "deliver-all ") (decimal payload) (written (codes "deliver-all ") refl) (IsAscii-decimal payload small))
 
 pub early_ascii : (line : List ℕ) (l : PeerLimits) → IsEarlyInRange l → MeansEarly line l → IsAscii line
 early_ascii line l range means = line_ascii line (early_fields l) means (remembered_ascii l range)

@@ -123,6 +123,13 @@ MeansStep line step = fields_of line ≡ step_fields step
 abbrev pub MeansSettle : List ℕ → Type 0
 MeansSettle line = line ≡ codes "settle"
 
+-- a line hands in the payload of this number whole, or none
+abbrev pub MeansWhole : List ℕ → ℕ → Type 0
+MeansWhole line payload = line ≡ spaced (codes "deliver-all" ∷ decimal payload ∷ [])
+
+abbrev pub MeansNoWhole : List ℕ → Type 0
+MeansNoWhole line = (payload : ℕ) → payload < 2 ^ 64 → MeansWhole line payload → ⊥
+
 abbrev pub MeansConfig : List ℕ → End → Config → Type 0
 MeansConfig line who config = fields_of line ≡ config_fields who config
 

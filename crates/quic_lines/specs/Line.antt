@@ -1,5 +1,5 @@
 -- The lines that answer steps.
-use Rattle.std.specs.Prelude.{ℕ, Bool, true, false, List, ◌++◌, ◌==◌, if◌then◌else◌, codes}
+use Rattle.std.specs.Prelude.{ℕ, Bool, true, false, List, ◌++◌, ◌==◌, if◌then◌else◌, Option, Some, None, codes}
 use Rattle.std.specs.Fmt.{decimal}
 use Rattle.std.specs.List.{flat_map}
 use Rattle.quic_wire.specs.declared.ReceiveError.{ReceiveError}
@@ -109,3 +109,8 @@ reply_text (replies.Expanded true) = codes "expanded"
 reply_text (replies.Expanded false) = codes "not expanded"
 reply_text (replies.Event event) = event_text event
 reply_text (replies.Payload number bytes) = payload_text number bytes.items
+
+-- the reply for a payload that was handed in whole: how many frames were accepted, and the fault of the next one if it has one
+abbrev pub whole_text : ℕ → Option ReceiveError → List ℕ
+whole_text accepted None = codes "accepted " ++ decimal accepted
+whole_text accepted (Some fault) = codes "accepted " ++ decimal accepted ++ codes " " ++ fault_text fault

@@ -10,5 +10,5 @@ mod steps;
 pub use hexadecimal::{hex_bytes, hex_field};
 pub use lines::{LineError, parse_config, parse_early};
 pub use printing::step_line;
-pub use replies::{refusal_line, reply_line};
-pub use steps::{is_settle, parse_step};
+pub use replies::{refusal_line, reply_line, whole_line};
+pub use steps::{is_settle, parse_step, parse_whole};

@@ -1,5 +1,5 @@
 ghost use Rattle.std.specs.Prelude.{◌≡◌, IfOk, string_bytes};
-ghost use Rattle.quic_lines.specs.Line.{reason_name, refusal_text, direction_text, code_name, fault_text, event_text, read_text, reply_text, stopped_text, wrote_text, payload_text};
+ghost use Rattle.quic_lines.specs.Line.{reason_name, refusal_text, direction_text, code_name, fault_text, event_text, read_text, reply_text, stopped_text, wrote_text, payload_text, whole_text};
 
 use crate::hexadecimal::hex_field;
 use quic_assembler::Chunk;
@@ -163,4 +163,22 @@ pub fn refusal_line(alloc: Global, error: PairError) -> Result<String, OutOfMemo
     let number = error.number();
     let name = refusal_name(error);
     Ok(format!(in alloc; "refused {number} {name}")?)
+}
+
+/// The line that answers a payload which was handed in whole: how many of its frames were accepted, and the fault of the next one if
+/// it was rejected or memory for it ran out.
+pub fn whole_line(
+    alloc: Global,
+    accepted: usize,
+    fault: Option<ReceiveError>,
+) -> Result<String, OutOfMemory>
+    ensures { IfOk result (λ line. string_bytes line ≡ whole_text accepted fault) }
+{
+    match fault {
+        None => Ok(format!(in alloc; "accepted {accepted}")?),
+        Some(fault) => {
+            let name = fault_name(&fault);
+            Ok(format!(in alloc; "accepted {accepted} {name}")?)
+        }
+    }
 }

@@ -1,7 +1,7 @@
-ghost use Rattle.std.specs.Prelude.{◌≡◌, ◌∷◌, ◌↔◌, IsTrue, IfOk, IfErr, map, codes};
+ghost use Rattle.std.specs.Prelude.{◌≡◌, ◌∷◌, ◌↔◌, IsTrue, IfOk, IfErr, IfSome, IfNone, map, codes};
 ghost use Rattle.std.specs.Str.{IsAscii};
 ghost use Rattle.quic_lines.specs.Arguments.{verb_text, SpellsNoArguments};
-ghost use Rattle.quic_lines.specs.Grammar.{step_fields, SpellsNoStep, MeansStep, MeansNoStep, MeansSettle};
+ghost use Rattle.quic_lines.specs.Grammar.{step_fields, SpellsNoStep, MeansStep, MeansNoStep, MeansSettle, MeansWhole, MeansNoWhole};
 
 use crate::lines::{
     LineError, bytes, chunks, count, direction, end, fields_of, is_first, number, payload_part,
@@ -411,4 +411,19 @@ pub fn is_settle(line: &[u8]) -> bool
     ensures ascii { IsTrue result → IsAscii line.now }
 {
     line == b"settle".as_slice()
+}
+
+/// The number of the payload that a line hands in whole, if the line asks for that.
+pub fn parse_whole(line: &[u8]) -> Option<usize>
+    ensures means { IfSome result (MeansWhole line.now) }
+    ensures ascii { IfSome result (λ payload. IsAscii line.now) }
+    ensures none { IfNone result (MeansNoWhole line.now) }
+{
+    let Some(field) = line.strip_prefix(b"deliver-all ".as_slice()) else {
+        return None;
+    };
+    let Ok(text) = str::from_utf8(field) else {
+        return None;
+    };
+    size(text).ok()
 }

@@ -5,7 +5,7 @@ ghost use Rattle.std.specs.List.{zip};
 ghost use Rattle.quic_pair.specs.Shown.{pair_view};
 ghost use Rattle.quic_exchange.specs.From.{PairFrom, at_once};
 
-use quic_pair::{Config, End, Pair, PairError, Reply, Step};
+use quic_pair::{Config, End, Pair, PairError, Received, Reply, Step};
 use quic_values::{Bytes, Dir, OutOfMemory, Side, StreamId, VarInt};
 use std::alloc::Global;
 use std::fmt::Debug;
@@ -48,6 +48,10 @@ fn was_given(pair: &Pair, who: End, id: StreamId) -> bool {
 
 fn payload_of(pair: &Pair, number: usize) -> Option<&[u8]> {
     pair.payload(number)
+}
+
+fn hand_in(pair: &mut Pair, payload: usize) -> Result<Received, PairError> {
+    pair.deliver_all(payload)
 }
 
 // Both are the same, or the test fails and shows them.
@@ -102,5 +106,36 @@ fn a_pair_tells_of_ids_and_payloads(rt: HostRuntime) -> Result<(), Fail> {
     let first = b"\x0a\x00\x05hiabc".as_slice();
     same(&rt, payload_of(pair, 0), Some(first));
     same(&rt, payload_of(pair, 2), None);
+    Ok(())
+}
+
+// The client sends a byte on each of two streams in one payload.
+fn steps_of_two_streams(alloc: Global) -> Result<Vec<Step>, OutOfMemory> {
+    let who = End::A;
+    let mut steps = Vec::new(alloc);
+    for dir in [Dir::Bi, Dir::Uni] {
+        let (id, bytes) = (stream(dir), Bytes::copy_from_slice(alloc, b"h")?);
+        steps.push(Step::Open { who, dir })?;
+        steps.push(Step::Write { who, id, bytes })?;
+    }
+    steps.push(emit(who))?;
+    Ok(steps)
+}
+
+#[test]
+fn a_whole_payload_is_accepted_frame_by_frame(rt: HostRuntime) -> Result<(), Fail> {
+    let alloc = rt.alloc();
+    let mut taken = taken_of(alloc, steps_of_two_streams(alloc)?)?;
+    let all = Received {
+        next: 2,
+        answer: Ok(()),
+    };
+    same(&rt, hand_in(&mut taken.pair, 0), Ok(all));
+    same(&rt, hand_in(&mut taken.pair, 0), Ok(all));
+    same(
+        &rt,
+        hand_in(&mut taken.pair, 1),
+        Err(PairError::NoSuchPayload),
+    );
     Ok(())
 }

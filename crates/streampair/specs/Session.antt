@@ -1,5 +1,5 @@
 -- What a session answers to its lines.
-use Rattle.std.specs.Prelude.{true, false, ◌≡◌, ◌⊎◌, ◌+◌, ◌-◌, ◌^◌, ◌<◌, ℕ, List, [], ◌++◌, length, Option, Result, Ok, Err, OnOk, IfErr, IfSome, Some, codes, string_bytes}
+use Rattle.std.specs.Prelude.{true, false, ◌≡◌, ◌⊎◌, ◌+◌, ◌-◌, ◌^◌, ◌<◌, ℕ, List, [], ◌++◌, length, Option, Result, Ok, Err, OnOk, IfErr, IfSome, Some, None, codes, string_bytes}
 use Rattle.std.specs.Fmt.{decimal}
 use Rattle.std.specs.List.{flat_map}
 use Rattle.std.specs.Str.{IsAscii}
@@ -19,6 +19,13 @@ use Rattle.quic_exchange.specs.History.{History}
 use Rattle.quic_exchange.specs.Runs.{TakesSteps}
 use Rattle.quic_exchange.specs.Settling.{IsSettling, IsCutOff, IsUndecided}
 use Rattle.quic_exchange.specs.Promises.{Completes}
+use Rattle.quic_session.specs.declared.receiving.Received.{Received}
+use Rattle.quic_session.specs.declared.receiving.PayloadError.{PayloadError}
+use Rattle.quic_session.specs.declared.receiving.PayloadError.TheVariants as payload_error
+use Rattle.quic_wire.specs.Codes.{FRAME_ENCODING_ERROR}
+use Rattle.quic_wire.specs.declared.error.ReceiveError.{ReceiveError}
+use Rattle.quic_wire.specs.declared.error.ReceiveError.TheVariants as faults
+use Rattle.quic_pair.specs.Whole.{HandsIn, RefusesPayload}
 use Rattle.streampair.specs.declared.session.Session.{Session}
 use Rattle.streampair.specs.declared.session.Session.TheVariants.{Start, Configured, Joined}
 use Rattle.streampair.specs.declared.session.Text.{Text}
@@ -28,8 +35,8 @@ use Rattle.streampair.specs.declared.session.Stop.TheVariants.{Malformed, NoPair
 use Rattle.quic_lines.specs.declared.lines.LineError.{LineError}
 use Rattle.quic_lines.specs.declared.lines.LineError.TheVariants as lines
 use Rattle.quic_steps.specs.declared.steps.End.TheVariants.{A, B}
-use Rattle.quic_lines.specs.Grammar.{step_text, MeansStep, MeansConfig, MeansSettle, MeansEarly, MeansNoStep, MeansNoConfig, MeansNoEarly}
-use Rattle.quic_lines.specs.Line.{reply_text, refusal_text}
+use Rattle.quic_lines.specs.Grammar.{step_text, MeansStep, MeansConfig, MeansSettle, MeansWhole, MeansEarly, MeansNoStep, MeansNoWhole, MeansNoConfig, MeansNoEarly}
+use Rattle.quic_lines.specs.Line.{reply_text, refusal_text, whole_text}
 
 abbrev pub ok_line : List ℕ
 ok_line = codes "ok\n"
@@ -105,9 +112,46 @@ pub record TakesSettling (line : List ℕ) (old : PairState) (text : List ℕ) (
   pub means : MeansSettle line
   pub settled : IsSettlement old text new
 
+-- why no more frames of a payload were accepted, as the fault of the next one. Bytes that are no frames would be one too (RFC 9000
+-- section 12.4)
+abbrev pub IsFault : Result (Unit {0}) PayloadError → Option ReceiveError → Type 0
+IsFault (Ok done) fault = fault ≡ None
+IsFault (Err payload_error.Malformed) (Some (faults.Transport error)) = error.code ≡ FRAME_ENCODING_ERROR
+IsFault (Err payload_error.Malformed) _ = ⊥
+IsFault (Err (payload_error.Transport error)) fault = fault ≡ Some (faults.Transport error)
+IsFault (Err payload_error.OutOfMemory) fault = fault ≡ Some faults.OutOfMemory
+
+-- the line that says what came of a payload
+pub record SaysReceived (received : Received) (text : List ℕ) : Type 0 where
+  pub fault : Option ReceiveError
+  pub why : IsFault received.answer fault
+  pub text_is : text ≡ whole_text received.next fault ++ codes "\n"
+
+-- the pair was handed a payload whole, and this text is the reply to that
+pub record IsHandedIn (old : PairState) (payload : ℕ) (text : List ℕ) (new : PairState) : Type 0 where
+  pub received : Received
+  pub hands_in : HandsIn old payload received new
+  pub says : SaysReceived received text
+
+-- it was not, and nothing changed
+pub record IsNotHandedIn (old : PairState) (payload : ℕ) (text : List ℕ) (new : PairState) : Type 0 where
+  pub error : PairError
+  pub refused : RefusesPayload old payload error
+  pub same : new ≡ old
+  pub text_is : text ≡ answer_line (Err error)
+
+abbrev pub IsWhole : PairState → ℕ → List ℕ → PairState → Type 0
+IsWhole old payload text new = IsHandedIn old payload text new ⊎ IsNotHandedIn old payload text new
+
+-- the line asked for that
+pub record TakesWhole (line : List ℕ) (old : PairState) (text : List ℕ) (new : PairState) : Type 0 where
+  pub payload : ℕ
+  pub means : MeansWhole line payload
+  pub taken : IsWhole old payload text new
+
 -- a pair answers a line behind the configs
 abbrev pub AnswersRunning : PairState → List ℕ → List ℕ → PairState → Type 0
-AnswersRunning old line text new = TakesStep line old text new ⊎ TakesSettling line old text new
+AnswersRunning old line text new = TakesStep line old text new ⊎ TakesSettling line old text new ⊎ TakesWhole line old text new
 
 -- the third line is that of such limits, or one like those behind it
 abbrev pub AnswersReady : Config → Config → PairState → List ℕ → List ℕ → PairState → Type 0
@@ -121,9 +165,9 @@ Answers (Joined a b old true) line text (Joined c d new false) = AnswersReady a 
 Answers (Joined a b old false) line text (Joined c d new false) = AnswersRunning (pair_view old) line text (pair_view new)
 Answers _ line text _ = ⊥
 
--- a line behind the configs is no step, and asks for no settling
+-- a line behind the configs is no step, asks for no settling, and hands in no payload
 abbrev pub MeansNoLine : List ℕ → Type 0
-MeansNoLine line = MeansNoStep line × (MeansSettle line → ⊥)
+MeansNoLine line = MeansNoStep line × (MeansSettle line → ⊥) × MeansNoWhole line
 
 -- a line spells nothing that may stand there
 abbrev pub MeansNothing : Session → List ℕ → Type 0

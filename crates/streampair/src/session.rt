@@ -4,19 +4,19 @@ ghost use Rattle.std.specs.Str.{IsAscii};
 ghost use Rattle.std.specs.Io.KnownBytes.{Appends};
 ghost use Rattle.quic_pair.specs.Shown.{pair_view};
 ghost use Rattle.quic_lines.specs.Grammar.{MeansConfig, MeansNoConfig, MeansNoEarly};
-ghost use Rattle.streampair.specs.Session.{answer_line, lines_of, Answers, AnswersReady, AnswersRunning, ExitsWith, IsStep, IsSettlement, settlement_text, IsServed, IsMalformed, IsEarlyLine, IsMadeOf, IsPairDue, IsStopOf, end_line, last_line, malformed_line, MeansNoLine, MeansNothing, no_line, status, StopsAt, stop_of, text_bytes};
+ghost use Rattle.streampair.specs.Session.{answer_line, lines_of, Answers, AnswersReady, AnswersRunning, ExitsWith, IsStep, IsSettlement, settlement_text, IsFault, SaysReceived, IsWhole, IsServed, IsMalformed, IsEarlyLine, IsMadeOf, IsPairDue, IsStopOf, end_line, last_line, malformed_line, MeansNoLine, MeansNothing, no_line, status, StopsAt, stop_of, text_bytes};
 ghost use Rattle.streampair.specs.Streams.{AppendsPart};
 
 use crate::environment::{Environment, StreamFailed};
 use crate::streams::Streams;
 use itoa::Buffer;
 use quic_lines::{
-    LineError, is_settle, parse_config, parse_early, parse_step, refusal_line, reply_line,
-    step_line,
+    LineError, is_settle, parse_config, parse_early, parse_step, parse_whole, refusal_line,
+    reply_line, step_line, whole_line,
 };
-use quic_pair::Pair;
+use quic_pair::{Pair, PayloadError, Received};
 use quic_steps::{Config, End, PairError, Reply, Step};
-use quic_wire::OutOfMemory;
+use quic_wire::{OutOfMemory, ReceiveError, TransportError};
 use std::alloc::Global;
 use std::io::{BufReader, Read, Write};
 
@@ -177,6 +177,37 @@ fn settle_lines(alloc: Global, pair: &mut Pair) -> Result<String, OutOfMemory>
     settled_text(alloc, taken.as_slice(), ended)
 }
 
+// Why no more frames of a payload were accepted, as the fault of the next one.
+fn fault_of(answer: Result<(), PayloadError>) -> Option<ReceiveError>
+    ensures { IsFault answer result }
+{
+    match answer {
+        Ok(()) => None,
+        Err(PayloadError::Malformed) => Some(ReceiveError::Transport(
+            TransportError::frame_encoding_error("malformed frame"),
+        )),
+        Err(PayloadError::Transport(error)) => Some(ReceiveError::Transport(error)),
+        Err(PayloadError::OutOfMemory) => Some(ReceiveError::OutOfMemory),
+    }
+}
+
+fn received_line(alloc: Global, received: Received) -> Result<String, OutOfMemory>
+    ensures { IfOk result (λ line. SaysReceived received (string_bytes line)) }
+{
+    let line = whole_line(alloc, received.next, fault_of(received.answer))?;
+    Ok(with_line_feed(line)?)
+}
+
+// Hands in a whole payload. Answers its reply, as a line with its line feed.
+fn answer_whole(alloc: Global, pair: &mut Pair, payload: usize) -> Result<String, OutOfMemory>
+    ensures { IfOk result (λ text. IsWhole (pair_view pair.old) payload (string_bytes text) (pair_view pair.new)) }
+{
+    match pair.deliver_all(payload) {
+        Ok(received) => received_line(alloc, received),
+        Err(error) => answer_line(alloc, &Err(error)),
+    }
+}
+
 // Answers the line of this number, behind the configs.
 fn answer_running(alloc: Global, number: u64, pair: &mut Pair, line: &[u8]) -> Result<String, Stop>
     ensures ascii { OnOk result (IsAscii line.now) }
@@ -185,6 +216,9 @@ fn answer_running(alloc: Global, number: u64, pair: &mut Pair, line: &[u8]) -> R
 {
     if is_settle(line) {
         return Ok(settle_lines(alloc, pair)?);
+    }
+    if let Some(payload) = parse_whole(line) {
+        return Ok(answer_whole(alloc, pair, payload)?);
     }
     match parse_step(alloc, line) {
         Ok(step) => Ok(answer_step(alloc, pair, step)?),
