@@ -60,9 +60,6 @@ ALLOWED = {
     # A report of a payload hands the payload back where memory ran out, and only there.
     ("crates/connection_loop/src/connection.rt", "self.streams.acked(sent).or(Err(OutOfMemory))?;"),
     ("crates/connection_loop/src/connection.rt", ".or(Err(OutOfMemory))?,"),
-    ("crates/hostile/src/application.rt", "answer.or(Err(OutOfMemory))"),
-    # A payload that an end wrote itself is decoded: its contract says that it can be.
-    ("crates/hostile/src/application.rt", "Err(DecodeError::OutOfMemory) | Err(DecodeError::Malformed) => return Err(OutOfMemory),"),
     # The reply of a step said that memory ran out: no other reply ends a settling so.
     ("crates/quic_pair/src/settle.rt", "None => Err(OutOfMemory),"),
     # The session says of a payload that it was cut, which it does only behind a frame for which memory ran out.

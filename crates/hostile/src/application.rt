@@ -1,19 +1,32 @@
-//! The application of the end that the peer sends to: it polls, reads, stops, writes and sends now and then.
+//! The application and the host of the endpoint that the peer sends to: they poll, read, stop, write and send now and then.
 
 use crate::arrival::byte_at;
 use crate::peer::Draws;
-use crate::record::Record;
+use crate::record::{DATAGRAM, Record};
 use quic_assembler::Chunk;
-use quic_endpoint::{Endpoint, Payload};
-use quic_receiving::HandleError;
-use quic_streams::batches::ReadSome;
+use quic_receiving::{HandleError, ReadableError};
+use quic_session::Session;
+use quic_session::buffer::Buffer;
+use quic_session::emitting::Parts;
+use quic_session::lent_bytes::LentBytes;
+use quic_session::settling::SettleError;
 use quic_streams::progress::LastAnswer;
 use quic_values::{Dir, OutOfMemory, StreamId, VarInt};
-use quic_wire::{DecodeError, Frame, StreamEvent, decode};
+use quic_wire::{DecodeError, StreamEvent, decode};
 use std::alloc::Global;
 
 // How many streams of its own the application keeps open, and how many it opens in both directions at all.
 const OWN: usize = 8;
+
+// How many payloads are sent before the first of them is acknowledged or lost.
+const UNSETTLED: u64 = 8;
+
+// The frames that a payload may carry.
+const FRAMES: Parts = Parts {
+    control: true,
+    datagrams: true,
+    streams: true,
+};
 
 /// An application, and the streams that it was given.
 #[derive(Drop)]
@@ -22,8 +35,12 @@ pub struct Application {
     own: Vec<StreamId>,
     accepted: Vec<StreamId>,
     opened_both: usize,
+    // Payloads that are neither acknowledged nor lost.
+    tokens: Vec<u64>,
     /// How many bytes it was given that are not those of their offsets.
     pub wrong_bytes: u64,
+    /// How often a call did not do what the record wants.
+    pub out_of_step: u64,
 }
 
 // The code of what it gives up.
@@ -31,16 +48,39 @@ fn code() -> VarInt {
     VarInt::from(3u32)
 }
 
-fn wrong_bytes_in(chunk: &Chunk) -> u64 {
+// How many of some bytes are not those of their offsets.
+fn wrong_in(bytes: &[u8], first: u64) -> u64 {
     let mut wrong = 0u64;
-    let mut offset = chunk.offset;
-    for byte in chunk.bytes.as_slice() {
+    let mut offset = first;
+    for byte in bytes {
         if *byte != byte_at(offset) {
             wrong = wrong.saturating_add(1);
         }
         offset = offset.wrapping_add(1);
     }
     wrong
+}
+
+// How many bytes were read, and how many of them are not those of their offsets.
+fn count_chunks(chunks: &[Chunk]) -> (u64, u64) {
+    let (mut count, mut wrong) = (0u64, 0u64);
+    for chunk in chunks {
+        count = count.saturating_add(chunk.bytes.len() as u64);
+        wrong = wrong.saturating_add(wrong_in(chunk.bytes.as_slice(), chunk.offset));
+    }
+    (count, wrong)
+}
+
+// The same of bytes that are lent, of which the first has an offset.
+fn count_lent(lent: &[LentBytes], first: u64) -> (u64, u64) {
+    let (mut count, mut wrong) = (0u64, 0u64);
+    for chunk in lent {
+        let offset = first.wrapping_add(count);
+        let bytes = &chunk.memory[chunk.start..];
+        count = count.saturating_add(bytes.len() as u64);
+        wrong = wrong.saturating_add(wrong_in(bytes, offset));
+    }
+    (count, wrong)
 }
 
 // Why something was not done: memory ran out.
@@ -51,6 +91,14 @@ fn memory_of(error: HandleError) -> Result<(), OutOfMemory> {
     }
 }
 
+// The same of a read.
+fn memory_of_read(error: ReadableError) -> Result<(), OutOfMemory> {
+    match error {
+        ReadableError::ClosedStream | ReadableError::IllegalOrderedRead => Ok(()),
+        ReadableError::OutOfMemory => Err(OutOfMemory),
+    }
+}
+
 impl Application {
     pub fn new(alloc: Global, seed: u64) -> Self {
         Application {
@@ -58,7 +106,9 @@ impl Application {
             own: Vec::new(alloc),
             accepted: Vec::new(alloc),
             opened_both: 0,
+            tokens: Vec::new(alloc),
             wrong_bytes: 0,
+            out_of_step: 0,
         }
     }
 
@@ -66,18 +116,29 @@ impl Application {
     pub fn turn(
         &mut self,
         alloc: Global,
-        end: &mut Endpoint,
+        end: &mut Session,
         record: &mut Record,
     ) -> Result<(), OutOfMemory> {
         poll(end)?;
         self.accept(end)?;
-        self.open(end)?;
+        self.open(end, record)?;
         self.attend(end, record)?;
-        self.write(end)?;
-        self.send(alloc, end, record)
+        self.write(end, record)?;
+        if self.draws.once_in(4) {
+            self.take_datagram(end);
+        }
+        self.send(alloc, end, record)?;
+        self.report(end)
     }
 
-    fn accept(&mut self, end: &mut Endpoint) -> Result<(), OutOfMemory> {
+    // Something is as the record wants it, or not.
+    fn expect(&mut self, is_wanted: bool) {
+        if !is_wanted {
+            self.out_of_step = self.out_of_step.saturating_add(1);
+        }
+    }
+
+    fn accept(&mut self, end: &mut Session) -> Result<(), OutOfMemory> {
         for dir in [Dir::Bi, Dir::Uni] {
             for _ in 0..u32::MAX {
                 match end.accept(dir) {
@@ -89,13 +150,15 @@ impl Application {
         Ok(())
     }
 
-    fn open(&mut self, end: &mut Endpoint) -> Result<(), OutOfMemory> {
+    fn open(&mut self, end: &mut Session, record: &mut Record) -> Result<(), OutOfMemory> {
         if self.own.len() >= OWN {
             return Ok(());
         }
         let both = self.opened_both < OWN;
         let dir = if both { Dir::Bi } else { Dir::Uni };
-        if let Some(id) = end.open(dir)? {
+        let opened = end.open(dir)?;
+        self.expect(record.note_open(dir, &opened));
+        if let Some(id) = opened {
             self.own.push(id)?;
             if both {
                 self.opened_both = self.opened_both.saturating_add(1);
@@ -105,14 +168,15 @@ impl Application {
         Ok(())
     }
 
-    // Looks after one of the streams on which something may come.
-    fn attend(&mut self, end: &mut Endpoint, record: &mut Record) -> Result<(), OutOfMemory> {
+    // Looks after one of the streams on which something may be received.
+    fn attend(&mut self, end: &mut Session, record: &mut Record) -> Result<(), OutOfMemory> {
         let place = self.draws.below(self.accepted.len() as u64) as usize;
         let Some(id) = self.accepted.get(place).copied() else {
             return Ok(());
         };
         match self.draws.below(64) {
-            0..=41 => self.read(end, record, id, true),
+            0..=20 => self.read(end, record, id, true),
+            21..=41 => self.read_lent(end, record, id),
             42 => self.read(end, record, id, false),
             43 => self.stop(end, record, id),
             44..=51 => self.ask_reset(end, record, id),
@@ -122,41 +186,57 @@ impl Application {
 
     fn read(
         &mut self,
-        end: &mut Endpoint,
+        end: &mut Session,
         record: &mut Record,
         id: StreamId,
         ordered: bool,
     ) -> Result<(), OutOfMemory> {
         match end.read(id, ordered, 500, 20) {
-            Err(_) => Ok(()),
-            Ok(some) => self.take_read(end, record, id, &some),
+            Err(error) => memory_of_read(error),
+            Ok(some) => {
+                let counts = count_chunks(some.chunks.as_slice());
+                self.take_read(end, record, id, counts, some.last)
+            }
         }
     }
 
-    fn take_read(
+    fn read_lent(
         &mut self,
-        end: &mut Endpoint,
+        end: &mut Session,
         record: &mut Record,
         id: StreamId,
-        some: &ReadSome,
     ) -> Result<(), OutOfMemory> {
-        let mut count = 0u64;
-        for chunk in &some.chunks {
-            count = count.saturating_add(chunk.bytes.len() as u64);
-            self.wrong_bytes = self.wrong_bytes.saturating_add(wrong_bytes_in(chunk));
+        match end.read_lent(id, 20) {
+            Err(error) => memory_of_read(error),
+            Ok(read) => {
+                let counts = count_lent(end.lent_bytes(), read.offset);
+                self.take_read(end, record, id, counts, read.last)
+            }
         }
+    }
+
+    // Bytes were read, of which some are wrong.
+    fn take_read(
+        &mut self,
+        end: &mut Session,
+        record: &mut Record,
+        id: StreamId,
+        (count, wrong): (u64, u64),
+        last: LastAnswer,
+    ) -> Result<(), OutOfMemory> {
+        self.wrong_bytes = self.wrong_bytes.saturating_add(wrong);
         record.note_read(id, count)?;
-        match some.last {
+        match last {
             LastAnswer::Ended | LastAnswer::Reset(_) => self.let_go(end, record, id),
             LastAnswer::Memory => Err(OutOfMemory),
             LastAnswer::Blocked | LastAnswer::More => Ok(()),
         }
     }
 
-    // A receive half was freed. What would be sent on the stream is given up too.
+    // A receive side is freed. What would be sent on the stream is given up too.
     fn let_go(
         &mut self,
-        end: &mut Endpoint,
+        end: &mut Session,
         record: &mut Record,
         id: StreamId,
     ) -> Result<(), OutOfMemory> {
@@ -164,7 +244,7 @@ impl Application {
         self.forget(end, id)
     }
 
-    fn forget(&mut self, end: &mut Endpoint, id: StreamId) -> Result<(), OutOfMemory> {
+    fn forget(&mut self, end: &mut Session, id: StreamId) -> Result<(), OutOfMemory> {
         self.accepted.retain(|held| *held != id);
         give_up(end, id)
     }
@@ -172,7 +252,7 @@ impl Application {
     /// Stops a stream, and forgets it.
     pub fn stop(
         &mut self,
-        end: &mut Endpoint,
+        end: &mut Session,
         record: &mut Record,
         id: StreamId,
     ) -> Result<(), OutOfMemory> {
@@ -187,7 +267,7 @@ impl Application {
 
     fn ask_reset(
         &mut self,
-        end: &mut Endpoint,
+        end: &mut Session,
         record: &mut Record,
         id: StreamId,
     ) -> Result<(), OutOfMemory> {
@@ -199,7 +279,7 @@ impl Application {
     }
 
     // Writes on one of its own streams, ends it now and then, and forgets one that is closed.
-    fn write(&mut self, end: &mut Endpoint) -> Result<(), OutOfMemory> {
+    fn write(&mut self, end: &mut Session, record: &mut Record) -> Result<(), OutOfMemory> {
         let place = self.draws.below(self.own.len() as u64) as usize;
         let Some(id) = self.own.get(place).copied() else {
             return Ok(());
@@ -210,7 +290,7 @@ impl Application {
                 give_up(end, id)?;
                 false
             }
-            _ => end.write(id, b"some of thirty bytes of a text").is_ok(),
+            _ => write_text(end, record, id),
         };
         if !is_written && end.write(id, b"").is_err() && end.streams().write_limit() > 0 {
             give_up(end, id)?;
@@ -219,26 +299,92 @@ impl Application {
         Ok(())
     }
 
-    // Sends what there is. Some payloads are lost, and the others are acknowledged.
+    // Takes the oldest datagram, and sends one now and then.
+    fn take_datagram(&mut self, end: &mut Session) {
+        if let Some(bytes) = end.recv_datagram() {
+            let wrong = wrong_in(bytes.as_slice(), 0);
+            self.wrong_bytes = self.wrong_bytes.saturating_add(wrong);
+            self.expect(bytes.len() <= DATAGRAM as usize);
+            end.give_back(bytes);
+        }
+        if self.draws.once_in(16) {
+            let _ = end.send_datagram(b"some bytes of a datagram", true);
+        }
+    }
+
+    // Sends what there is.
     fn send(
         &mut self,
         alloc: Global,
-        end: &mut Endpoint,
+        end: &mut Session,
         record: &mut Record,
     ) -> Result<(), OutOfMemory> {
-        let (payload, answer) = end.emit(1200, self.draws.once_in(2));
-        answer?;
-        note_limits(alloc, record, payload.bytes.as_slice())?;
-        self.report(end, payload)
+        let mut payload = Buffer::new(alloc);
+        let emitted = end.emit_buffer(&mut payload, 1200, FRAMES, self.draws.once_in(2))?;
+        if let Some(emitted) = emitted {
+            self.tokens.push(emitted.token)?;
+            record.count_over(end.streams());
+            self.note_payload(alloc, record, payload.bytes.as_slice())?;
+        }
+        Ok(())
     }
 
-    fn report(&mut self, end: &mut Endpoint, payload: Payload) -> Result<(), OutOfMemory> {
-        let answer = if self.draws.once_in(4) {
-            end.lose(payload.sent)
-        } else {
-            end.acknowledge(payload.sent)
+    // Notes the limits that a payload advertises.
+    fn note_payload(
+        &mut self,
+        alloc: Global,
+        record: &mut Record,
+        payload: &[u8],
+    ) -> Result<(), OutOfMemory> {
+        let frames = match decode(alloc, payload) {
+            Ok(frames) => frames,
+            Err(DecodeError::OutOfMemory) => return Err(OutOfMemory),
+            Err(DecodeError::Malformed) => {
+                self.expect(false);
+                return Ok(());
+            }
         };
-        answer.or(Err(OutOfMemory))
+        for frame in &frames {
+            let is_enforced = record.note_sent(frame)?;
+            self.expect(is_enforced);
+        }
+        Ok(())
+    }
+
+    // Some payloads are lost, and the others are acknowledged.
+    fn report(&mut self, end: &mut Session) -> Result<(), OutOfMemory> {
+        let count = self.tokens.len() as u64;
+        let place = self.draws.below(count) as usize;
+        if self.draws.below(UNSETTLED) >= count || place >= self.tokens.len() {
+            return Ok(());
+        }
+        let token = self.tokens.swap_remove(place);
+        let answer = if self.draws.once_in(4) {
+            end.lost(token)
+        } else {
+            end.acked(token)
+        };
+        let is_settled = end.unsettled_payloads() == self.tokens.len();
+        self.expect(is_settled);
+        match answer {
+            Ok(()) => Ok(()),
+            Err(SettleError::OutOfMemory) => Err(OutOfMemory),
+            Err(SettleError::UnknownToken) => {
+                self.expect(false);
+                Ok(())
+            }
+        }
+    }
+}
+
+// Writes a text on a stream. Whether some of it was written.
+fn write_text(end: &mut Session, record: &mut Record, id: StreamId) -> bool {
+    match end.write(id, b"some of thirty bytes of a text") {
+        Ok(count) => {
+            record.note_write(count);
+            true
+        }
+        Err(_) => false,
     }
 }
 
@@ -251,7 +397,7 @@ fn stopped_in(event: StreamEvent) -> Option<StreamId> {
 }
 
 // Gives up what the peer wants no more of.
-fn poll(end: &mut Endpoint) -> Result<(), OutOfMemory> {
+fn poll(end: &mut Session) -> Result<(), OutOfMemory> {
     for _ in 0..u32::MAX {
         let Some(event) = end.poll() else {
             return Ok(());
@@ -264,23 +410,9 @@ fn poll(end: &mut Endpoint) -> Result<(), OutOfMemory> {
 }
 
 // Gives up what is to be sent on a stream, if there is something.
-fn give_up(end: &mut Endpoint, id: StreamId) -> Result<(), OutOfMemory> {
+fn give_up(end: &mut Session, id: StreamId) -> Result<(), OutOfMemory> {
     match end.reset(id, code()) {
         Ok(()) => Ok(()),
         Err(error) => memory_of(error),
     }
-}
-
-// Notes the limits of streams that a payload announces.
-fn note_limits(alloc: Global, record: &mut Record, payload: &[u8]) -> Result<(), OutOfMemory> {
-    let frames = match decode(alloc, payload) {
-        Ok(frames) => frames,
-        Err(DecodeError::OutOfMemory) | Err(DecodeError::Malformed) => return Err(OutOfMemory),
-    };
-    for frame in &frames {
-        if let Frame::MaxStreamData { id, offset } = frame {
-            record.note_limit(*id, *offset)?;
-        }
-    }
-    Ok(())
 }

@@ -1,17 +1,22 @@
-//! Hands frames that no honest peer sends to one end of a connection, one after another, and holds each answer against
-//! a plain record of what has to come of it. Reads a seed and a number of frames from standard input.
+//! Hands frames that no honest peer sends to a session, one payload after another, and holds each answer against a plain
+//! record of what has to come of it. Reads a seed and a number of frames from standard input.
 #![tactic(auto)]
 
 mod application;
 mod arrival;
+mod flow;
+mod payload;
 mod peer;
+mod queries;
 mod record;
+mod tally;
 mod trial;
 
 use std::alloc::Global;
 use std::io::{self, Read};
 use std::process::ExitCode;
-use trial::{Tally, hold};
+use tally::Tally;
+use trial::hold;
 
 // What is asked for: a seed, and how many frames.
 fn asked(text: &str) -> Option<(u64, u64)> {

@@ -1,9 +1,9 @@
 //! What a peer that keeps no rule sends next.
 
-use crate::arrival::{Arrival, Part, var_int};
-use crate::record::{Flow, Phase, Record};
-use quic_streams::state::StreamsState;
-use quic_values::{Dir, StreamId};
+use crate::arrival::{Arrival, GREATEST, Part, var_int};
+use crate::flow::{Flow, Phase};
+use crate::record::Record;
+use quic_values::{Dir, OutOfMemory, StreamId};
 
 /// Numbers that a seed gives, one after another.
 #[derive(Clone, Copy, Debug)]
@@ -18,7 +18,7 @@ impl Draws {
         (self.0 ^ (self.0 >> 29)) >> 20
     }
 
-    /// One below a number, 0 where there is none.
+    /// One below a number, 0 if there is none.
     pub fn below(&mut self, bound: u64) -> u64 {
         let drawn = self.next();
         if bound == 0 { 0 } else { drawn % bound }
@@ -29,13 +29,15 @@ impl Draws {
         self.below(times) == 0
     }
 
+    // The same of 16 bits.
+    fn short_below(&mut self, bound: u64) -> u16 {
+        u16::try_from(self.below(bound)).unwrap_or(u16::MAX)
+    }
+
     fn dir(&mut self) -> Dir {
         if self.once_in(2) { Dir::Bi } else { Dir::Uni }
     }
 }
-
-// The greatest offset.
-const GREATEST: u64 = (1 << 62) - 1;
 
 // For so many frames the peer sends mostly on one stream, which it fills with gaps.
 const SPELL: u64 = 8192;
@@ -75,11 +77,14 @@ impl Peer {
     }
 
     // Mostly a stream that may be open, at times any.
-    fn stream(&mut self, streams: &StreamsState) -> StreamId {
+    fn stream(&mut self, record: &Record) -> StreamId {
         let dir = self.draws.dir();
-        let top = streams.max_remote(dir);
+        let top = record.limit(dir);
         match self.draws.below(16) {
-            0 => of_server(dir, self.draws.below(12)),
+            0 => {
+                let next = record.own(dir).saturating_add(3);
+                of_server(dir, next.saturating_sub(self.draws.below(12)))
+            }
             1 => of_client(dir, top.saturating_add(self.draws.below(3))),
             2 => of_client(dir, self.draws.below(top)),
             3 => StreamId::from(var_int(GREATEST.saturating_sub(self.draws.below(8)))),
@@ -91,7 +96,7 @@ impl Peer {
     }
 
     fn offset(&mut self, flow: Flow) -> u64 {
-        match self.draws.below(12) {
+        let offset = match self.draws.below(12) {
             0 | 1 | 2 => flow.high,
             3 | 4 => flow.high.saturating_add(self.draws.below(4)),
             5 | 6 | 7 => self.draws.below(flow.high.saturating_add(1)),
@@ -99,16 +104,17 @@ impl Peer {
             9 => flow.limit.saturating_sub(self.draws.below(70)),
             10 => 0,
             _ => GREATEST.saturating_sub(self.draws.below(70)),
-        }
+        };
+        offset.min(GREATEST)
     }
 
-    fn count(&mut self) -> usize {
-        (match self.draws.below(32) {
+    fn count(&mut self) -> u16 {
+        match self.draws.below(32) {
             0 => 0,
-            1 => self.draws.below(1200),
+            1 => self.draws.short_below(1200),
             2..=9 => 1,
-            _ => self.draws.below(64),
-        }) as usize
+            _ => self.draws.short_below(64),
+        }
     }
 
     fn data(&mut self, id: StreamId, flow: Flow) -> Arrival {
@@ -155,19 +161,28 @@ impl Peer {
         match self.draws.below(4) {
             0 => 1 << 60,
             1 => (1u64 << 60).saturating_add(self.draws.below(4)),
-            2 => u64::MAX.saturating_sub(self.draws.below(4)),
+            2 => GREATEST.saturating_sub(self.draws.below(4)),
             _ => self.draws.below(40),
         }
     }
 
+    fn datagram(&mut self) -> Arrival {
+        let count = match self.draws.below(4) {
+            0 => self.draws.short_below(200).saturating_add(900),
+            1 => self.draws.short_below(4),
+            _ => self.draws.short_below(400),
+        };
+        Arrival::Datagram(count)
+    }
+
     // The stream that is filled with gaps for a while, or until it is closed.
-    fn victim(&mut self, streams: &StreamsState, record: &Record) -> Option<Flow> {
+    fn victim(&mut self, record: &Record) -> Option<Flow> {
         let is_over = self.sent % SPELL == 0;
         self.sent = self.sent.wrapping_add(1);
         match record.flow(self.victim) {
             Some(flow) if flow.phase == Phase::Open && !is_over => Some(flow),
             _ => {
-                let top = streams.max_remote(Dir::Uni);
+                let top = record.limit(Dir::Uni);
                 let back = self.draws.below(8).saturating_add(1);
                 self.victim = of_client(Dir::Uni, top.saturating_sub(back));
                 None
@@ -175,26 +190,55 @@ impl Peer {
         }
     }
 
-    /// How long the payload of a frame is at least.
-    pub fn spare(&mut self) -> usize {
-        if self.draws.once_in(8) { 1200 } else { 0 }
+    /// How many frames the next payload has, at most as many as are wanted.
+    pub fn frame_count(&mut self, most: u64) -> u64 {
+        let count = match self.draws.below(8) {
+            0 => self.draws.below(24),
+            1 | 2 | 3 => 0,
+            _ => self.draws.below(4),
+        };
+        count.saturating_add(1).min(most)
+    }
+
+    /// Whether data at the end of a payload have their length.
+    pub fn with_length(&mut self) -> bool {
+        self.draws.once_in(2)
+    }
+
+    /// Whether the next payload is malformed.
+    pub fn is_malformed(&mut self) -> bool {
+        self.draws.once_in(64)
+    }
+
+    /// Makes a payload malformed: its last byte goes, or a frame of an unknown type stands behind the others.
+    pub fn spoil(&mut self, payload: &mut Vec<u8>) -> Result<(), OutOfMemory> {
+        if self.draws.once_in(2) {
+            let _ = payload.pop();
+        } else {
+            let place = u8::try_from(self.draws.below(15)).unwrap_or(0);
+            payload.push(place.saturating_add(0x21))?;
+        }
+        Ok(())
     }
 
     /// The frame that comes next.
-    pub fn next(&mut self, streams: &StreamsState, record: &Record) -> Arrival {
-        let victim = self.victim(streams, record);
-        let id = self.stream(streams);
+    pub fn next(&mut self, record: &Record) -> Arrival {
+        let victim = self.victim(record);
+        let id = self.stream(record);
         if let Some(flow) = victim
             && (id == flow.id || self.draws.once_in(2))
         {
             return self.gap(flow);
         }
         let flow = record.flow(id).unwrap_or(Flow::untouched(id, 0));
-        match self.draws.below(40) {
+        match self.draws.below(44) {
             0..=23 => self.data(id, flow),
             24..=26 => self.reset(id, flow),
             27..=29 => Arrival::StopSending(id),
-            30..=32 => Arrival::MaxData(self.limit()),
+            30..=32 => Arrival::StreamDataBlocked {
+                id,
+                limit: self.limit(),
+            },
             33..=35 => Arrival::MaxStreamData {
                 id,
                 limit: self.limit(),
@@ -203,7 +247,9 @@ impl Peer {
                 dir: self.draws.dir(),
                 count: self.stream_count(),
             },
-            _ => Arrival::Blocked(self.limit()),
+            39..=40 => Arrival::MaxData(self.limit()),
+            41..=42 => self.datagram(),
+            _ => Arrival::DataBlocked(self.limit()),
         }
     }
 }
