@@ -6,14 +6,18 @@
  * resets every tenth stream halfway, and stops the echo of every tenth other.
  * The server allows 20 streams at a time. It reads no more of a stream until it
  * has written back what it read, so a slow reader slows its writer down.
- * Each drops LOSS of a hundred packets, whose form is in packets.h. Nothing is
- * encrypted. */
+ * Each event of a stream brings the address of what the program keeps of it,
+ * which QS_EVENT_CLOSED frees. The client is done when all its streams are
+ * over. Each drops LOSS of a hundred packets, whose form is in packets.h.
+ * Nothing is encrypted. */
 #include "packets.h"
 
 enum { STREAMS = 100, AT_A_TIME = 20, LENGTH = 40000, CHUNK = 4096 };
 enum { WINDOW = 1 << 16, STREAM_WINDOW = 1 << 14 };
 enum { CANCELLED = 7, UNWANTED = 9 }; /* application error codes */
-typedef struct {
+typedef struct stream {
+  struct stream *next, **link; /* in the list of the streams */
+  uint64_t id;
   uint64_t sent, received; /* client: bytes written, and checked */
   uint8_t chunk[CHUNK];    /* server: bytes read and not written back */
   size_t at, len;
@@ -21,18 +25,40 @@ typedef struct {
 } stream;
 typedef struct {
   host host;
-  stream streams[STREAMS];
+  stream *streams; /* those that are not over */
   unsigned opened, echoed, resets, stops, blocked;
   int is_server;
 } endpoint;
+
+/* Keeps a stream that was opened or accepted. */
+static stream *keep(endpoint *e, uint64_t id) {
+  stream *s = calloc(1, sizeof *s);
+  if (!s)
+    die("stream", QS_ERR_NOMEM);
+  s->id = id;
+  s->next = e->streams;
+  s->link = &e->streams;
+  if (s->next)
+    s->next->link = &s->next;
+  e->streams = s;
+  want("user", qs_stream_set_user(&e->host.conn, id, (uintptr_t)s));
+  return s;
+}
+
+static void forget(stream *s) {
+  *s->link = s->next;
+  if (s->next)
+    s->next->link = s->link;
+  free(s);
+}
 
 static uint8_t byte_of(uint64_t id, uint64_t at) {
   return (uint8_t)(id * 31 + at * 7 + (at >> 8));
 }
 
 /* Client: writes until the stream is blocked; QS_EVENT_WRITABLE goes on. */
-static void write_more(endpoint *e, uint64_t id) {
-  stream *s = &e->streams[qs_id_index(id)];
+static void write_more(endpoint *e, stream *s) {
+  const uint64_t id = s->id;
   const uint64_t target = qs_id_index(id) % 10 == 3 ? LENGTH / 2 : LENGTH;
   uint8_t data[CHUNK];
   uint64_t code;
@@ -59,13 +85,13 @@ static void open_streams(endpoint *e) {
   while (e->opened < STREAMS &&
          want("open", qs_stream_open(&e->host.conn, QS_BIDI, &id)) == QS_OK) {
     e->opened++;
-    write_more(e, id);
+    write_more(e, keep(e, id));
   }
 }
 
 /* Client: checks what came back, in the memory of the library. */
-static void check_echo(endpoint *e, uint64_t id) {
-  stream *s = &e->streams[qs_id_index(id)];
+static void check_echo(endpoint *e, stream *s) {
+  const uint64_t id = s->id;
   qs_slice slices[16];
   for (int32_t result = QS_OK; result == QS_OK && !s->is_done;) {
     size_t count = 0;
@@ -88,8 +114,8 @@ static void check_echo(endpoint *e, uint64_t id) {
 }
 
 /* Server: writes back what was read, and reads on when all is written. */
-static void echo(endpoint *e, uint64_t id) {
-  stream *s = &e->streams[qs_id_index(id)];
+static void echo(endpoint *e, stream *s) {
+  const uint64_t id = s->id;
   uint64_t code, offset;
   while (!s->is_done) {
     size_t written;
@@ -119,13 +145,12 @@ static void echo(endpoint *e, uint64_t id) {
 
 /* The peer wants no more of a stream: a server then reads no more of it. A side
  * that ended before is QS_ERR_NO_STREAM: a peer may both reset and stop. */
-static void on_stopped(endpoint *e, uint64_t id, uint64_t code) {
-  stream *s = &e->streams[qs_id_index(id)];
-  int32_t result = qs_stream_reset(&e->host.conn, id, code);
+static void on_stopped(endpoint *e, stream *s, uint64_t code) {
+  int32_t result = qs_stream_reset(&e->host.conn, s->id, code);
   if (result != QS_ERR_NO_STREAM)
     want("reset", result);
   if (e->is_server && !s->is_done) {
-    result = qs_stream_stop(&e->host.conn, id, code);
+    result = qs_stream_stop(&e->host.conn, s->id, code);
     if (result != QS_ERR_NO_STREAM)
       want("stop", result);
   }
@@ -133,30 +158,30 @@ static void on_stopped(endpoint *e, uint64_t id, uint64_t code) {
   s->is_done = 1;
 }
 
-/* Server: accepts streams as they are opened, so an event of a stream names one
- * that was accepted. This server has memory for STREAMS of them. */
+/* Server: accepts streams as they are opened, so that each later event of one
+ * finds it kept. */
 static void accept_streams(endpoint *e, uint32_t dir) {
   uint64_t id;
-  while (qs_stream_accept(&e->host.conn, dir, &id) == QS_OK) {
-    if (qs_id_index(id) >= STREAMS)
-      die("the peer opened too many streams", QS_ERR_ARGUMENT);
-    echo(e, id);
-  }
+  while (want("accept", qs_stream_accept(&e->host.conn, dir, &id)) == QS_OK)
+    echo(e, keep(e, id));
 }
 
 static void handle_events(endpoint *e) {
   qs_event event;
   while (want("poll", qs_poll(&e->host.conn, &event)) == QS_OK) {
+    stream *s = (stream *)(uintptr_t)event.user;
     if (event.kind == QS_EVENT_OPENED)
-      accept_streams(e, event.dir);
+      accept_streams(e, (uint32_t)event.dir);
     else if (event.kind == QS_EVENT_READABLE)
-      (e->is_server ? echo : check_echo)(e, event.id);
+      (e->is_server ? echo : check_echo)(e, s);
     else if (event.kind == QS_EVENT_WRITABLE)
-      (e->is_server ? echo : write_more)(e, event.id);
+      (e->is_server ? echo : write_more)(e, s);
     else if (event.kind == QS_EVENT_STOPPED)
-      on_stopped(e, event.id, event.app_code);
+      on_stopped(e, s, event.app_code);
     else if (event.kind == QS_EVENT_AVAILABLE)
       open_streams(e);
+    else if (event.kind == QS_EVENT_CLOSED)
+      forget(s);
   }
 }
 
@@ -167,7 +192,8 @@ static void open_endpoint(endpoint *e, uint16_t port) {
                             .send_window = WINDOW,
                             .receive_window = WINDOW,
                             .stream_window = STREAM_WINDOW,
-                            .datagram_receive = QS_NONE};
+                            .datagram_receive = QS_NONE,
+                            .track_streams = 1};
   /* The peer runs the same program: its limits are known. */
   const qs_peer_limits limits = {
       .initial_max_data = WINDOW,
@@ -189,12 +215,14 @@ int main(int argc, char **argv) {
   if (!e.is_server)
     open_streams(&e);
   while (!e.host.is_closed &&
-         (e.is_server || e.echoed + e.resets + e.stops < STREAMS)) {
+         (e.is_server || e.opened < STREAMS || e.streams)) {
     receive_packets(&e.host);
     handle_events(&e);
     send_pending(&e.host);
   }
   close_host(&e.host, !e.is_server);
+  while (e.streams) /* a server may miss the last acknowledgements */
+    forget(e.streams);
   printf("%u streams echoed, %u reset, %u stopped; blocked %u times\n",
          e.echoed, e.resets, e.stops, e.blocked);
   return e.echoed == 80 && e.resets == 10 && e.stops == 10 ? 0 : 1;

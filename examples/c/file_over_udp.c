@@ -67,7 +67,8 @@ static void handle_events(endpoint *e) {
   qs_event event;
   while (want("poll", qs_poll(&e->host.conn, &event)) == QS_OK) {
     if (event.kind == QS_EVENT_OPENED)
-      while (qs_stream_accept(&e->host.conn, event.dir, &e->stream) == QS_OK)
+      while (want("accept", qs_stream_accept(&e->host.conn, (uint32_t)event.dir,
+                                             &e->stream)) == QS_OK)
         read_file(e);
     else if (event.kind == QS_EVENT_READABLE)
       read_file(e);

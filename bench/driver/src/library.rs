@@ -88,6 +88,7 @@ fn config(side: Side, limits: &Limits) -> sys::qs_config {
             sys::QS_NONE
         },
         datagram_send: if datagrams { DATAGRAM_BUFFER } else { 0 },
+        track_streams: 0,
     }
 }
 
@@ -217,7 +218,8 @@ impl<P: Passing> Endpoint for Library<P> {
         if !found(unsafe { sys::qs_poll(&mut self.session.conn, &mut event) }) {
             return None;
         }
-        Some(match (event.kind, event.dir) {
+        // a kind and a direction are small numbers
+        Some(match (event.kind as u32, event.dir as u32) {
             (sys::QS_EVENT_OPENED, sys::QS_BIDI) => Event::Opened(Direction::Bidirectional),
             (sys::QS_EVENT_OPENED, _) => Event::Opened(Direction::Unidirectional),
             (sys::QS_EVENT_READABLE, _) => Event::Readable(event.id),

@@ -29,6 +29,7 @@ pub struct Counts {
 /// An endpoint, its socket, and its packets in flight.
 pub struct Host {
     pub state: StreamsState,
+    pub side: Side,
     pub is_closed: bool,
     pub counts: Counts,
     socket: UdpSocket,
@@ -41,9 +42,11 @@ pub struct Host {
 }
 
 impl Host {
-    /// An endpoint whose peer has the same limits. A server receives at the port, a client sends to it. Of a hundred packets
-    /// `loss` are dropped, drawn from `seed`.
-    pub fn new(side: Side, config: &Config, port: u16, loss: u64, seed: u64) -> Result<Self> {
+    /// An endpoint whose peer has the same limits. A server receives at the port, a client sends to it. The words behind the
+    /// port are LOSS and SEED, if they are there: of a hundred packets LOSS are dropped, drawn from SEED.
+    pub fn new(side: Side, config: &Config, port: &str, drops: &[String]) -> Result<Self> {
+        let word = |at: usize, absent: u64| drops.get(at).map_or(Ok(absent), |it| it.parse());
+        let (port, loss, seed) = (port.parse()?, word(0, 0)?, word(1, 1)?);
         let mut state = StreamsState::new(side, config)?;
         state.set_params(&Limits::of(config))?;
         let own = if side.is_server() { port } else { 0 };
@@ -54,6 +57,7 @@ impl Host {
         }
         Ok(Self {
             state,
+            side,
             is_closed: false,
             counts: Counts::default(),
             socket,

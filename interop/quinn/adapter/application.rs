@@ -27,7 +27,8 @@ impl StreamsState {
 
     /// Accepts the next stream of the peer from the library.
     fn take(&mut self, dir: Dir) -> Option<StreamId> {
-        let id = id_of(self.endpoint().accept(layer_dir(dir))?);
+        let accepted = self.endpoint().accept(layer_dir(dir));
+        let id = id_of(self.value(accepted)??);
         self.given[dir as usize] += 1;
         self.readable.insert(id, Readable::default());
         Some(id)

@@ -4,15 +4,16 @@
 //!
 //! The client writes 40,000 bytes on each stream and checks what comes back. It resets every tenth stream halfway, and stops
 //! the echo of every tenth other. The server allows 20 streams at a time. It reads no more of a stream until it has written
-//! back what it read, so a slow reader slows its writer down. Each drops LOSS of a hundred packets. Packets are those of
-//! `examples/c`, not encrypted.
+//! back what it read, so a slow reader slows its writer down. What is kept of a stream is dropped by [`Event::Closed`], and the
+//! client is done when all its streams are over. Each drops LOSS of a hundred packets. Packets are those of `examples/c`, not
+//! encrypted.
 
-use packets::{Host, Result};
 use quic_streams::{
     Config, Dir, Event, FinishError, Next, ReadError, Side, StreamError, StreamId, VarInt,
     WriteError,
 };
 use std::collections::HashMap;
+use udp_host::{run, Host, Program, Result};
 
 const STREAMS: u64 = 100;
 const LENGTH: u64 = 40_000;
@@ -41,8 +42,7 @@ struct Counts {
 
 struct Endpoint {
     host: Host,
-    side: Side,
-    streams: HashMap<StreamId, Stream>,
+    streams: HashMap<StreamId, Stream>, // those that are not over
     counts: Counts,
 }
 
@@ -175,47 +175,50 @@ impl Endpoint {
 
 /// Both.
 impl Endpoint {
-    /// A client is done when each stream has ended, a server when the client closes.
-    fn is_done(&self) -> bool {
-        let Counts {
-            echoed,
-            resets,
-            stops,
-            ..
-        } = self.counts;
-        self.side.is_client() && echoed + resets + stops == STREAMS
-    }
-
     /// The peer wants no more of a stream: a server then reads no more of it. A side that ended before is closed: a peer may
     /// both reset and stop.
     fn on_stopped(&mut self, id: StreamId, code: VarInt) -> Result<()> {
         let stream = self.streams.entry(id).or_default();
         unless_closed(self.host.state.send_stream(id).reset(code))?;
-        if self.side.is_server() && !stream.is_done {
+        if self.host.side.is_server() && !stream.is_done {
             unless_closed(self.host.state.recv_stream(id).stop(code))?;
         }
-        self.counts.stops += u64::from(!stream.is_done || self.side.is_client());
+        self.counts.stops += u64::from(!stream.is_done || self.host.side.is_client());
         stream.is_done = true;
         Ok(())
     }
+}
 
-    fn handle_events(&mut self) -> Result<()> {
-        while let Some(event) = self.host.state.poll() {
-            match event {
-                Event::Opened { dir } => {
-                    while let Some(id) = self.host.state.accept(dir) {
-                        self.echo(id)?;
-                    }
+impl Program for Endpoint {
+    fn host(&mut self) -> &mut Host {
+        &mut self.host
+    }
+
+    fn begin(&mut self) -> Result<()> {
+        self.open_streams()
+    }
+
+    fn handle(&mut self, event: Event) -> Result<()> {
+        let is_client = self.host.side.is_client();
+        match event {
+            Event::Opened { dir } => {
+                while let Some(id) = self.host.state.accept(dir)? {
+                    self.echo(id)?;
                 }
-                Event::Readable { id } if self.side.is_client() => self.check_echo(id)?,
-                Event::Writable { id } if self.side.is_client() => self.write_more(id)?,
-                Event::Readable { id } | Event::Writable { id } => self.echo(id)?,
-                Event::Stopped { id, error_code } => self.on_stopped(id, error_code)?,
-                Event::Available { .. } => self.open_streams()?,
-                _ => {}
             }
+            Event::Readable { id } if is_client => self.check_echo(id)?,
+            Event::Writable { id } if is_client => self.write_more(id)?,
+            Event::Readable { id } | Event::Writable { id } => self.echo(id)?,
+            Event::Stopped { id, error_code } => self.on_stopped(id, error_code)?,
+            Event::Available { .. } => self.open_streams()?,
+            Event::Closed { id, .. } => drop(self.streams.remove(&id)),
+            _ => {}
         }
         Ok(())
+    }
+
+    fn is_done(&self) -> bool {
+        self.counts.opened == STREAMS && self.streams.is_empty()
     }
 }
 
@@ -228,6 +231,7 @@ fn config() -> Config {
     config.stream_window = VarInt::from_u32(1 << 14);
     config.send_window = 1 << 16;
     config.datagram_receive = None;
+    config.track_streams = true;
     config
 }
 
@@ -239,24 +243,12 @@ fn main() -> Result<()> {
         (Some("client"), Some(port)) => (Side::Client, port),
         _ => return Err("usage: echo server|client PORT [LOSS [SEED]]".into()),
     };
-    let (loss, seed) = (word(3).unwrap_or("0"), word(4).unwrap_or("1"));
     let mut end = Endpoint {
-        host: Host::new(side, &config(), port.parse()?, loss.parse()?, seed.parse()?)?,
-        side,
+        host: Host::new(side, &config(), port, words.get(3..).unwrap_or(&[]))?,
         streams: HashMap::new(),
         counts: Counts::default(),
     };
-    if side.is_client() {
-        end.open_streams()?;
-    }
-    while !end.host.is_closed && !end.is_done() {
-        end.host.receive_packets()?;
-        end.handle_events()?;
-        end.host.send_pending()?;
-    }
-    if side.is_client() {
-        end.host.close()?;
-    }
+    run(&mut end)?;
     let Counts {
         echoed,
         resets,

@@ -6,12 +6,12 @@
 //! Of a hundred packets the program drops LOSS itself, drawn from SEED. There is no encryption, congestion control or
 //! authentication: no way to send files over a real network. The program of `examples/c` speaks the same.
 
-use packets::{Counts, Host, Result};
 use quic_streams::{
     Config, Dir, Event, FinishError, ReadError, Side, StreamId, VarInt, WriteError,
 };
 use std::fs::File;
 use std::io::{Read, Write};
+use udp_host::{run, Counts, Host, Program, Result};
 
 struct Endpoint {
     host: Host,
@@ -57,29 +57,43 @@ impl Endpoint {
             }
         }
     }
+}
 
-    fn handle_events(&mut self) -> Result<()> {
-        while let Some(event) = self.host.state.poll() {
-            match event {
-                Event::Opened { dir } => {
-                    while let Some(id) = self.host.state.accept(dir) {
-                        self.read_file(id)?;
-                    }
+impl Program for Endpoint {
+    fn host(&mut self) -> &mut Host {
+        &mut self.host
+    }
+
+    fn begin(&mut self) -> Result<()> {
+        let id = self.host.state.open(Dir::Uni)?;
+        self.write_file(id.ok_or("the peer allows no stream")?)
+    }
+
+    fn handle(&mut self, event: Event) -> Result<()> {
+        match event {
+            Event::Opened { dir } => {
+                while let Some(id) = self.host.state.accept(dir)? {
+                    self.read_file(id)?;
                 }
-                Event::Readable { id } => self.read_file(id)?,
-                Event::Writable { id } => self.write_file(id)?,
-                Event::Finished { .. } => self.is_done = true,
-                // The receiver wants no more, and learns how much there was.
-                Event::Stopped { id, error_code } => {
-                    self.host.state.send_stream(id).reset(error_code)?;
-                    self.host.send_pending()?;
-                    self.host.close()?;
-                    return Err("the receiver wants no more".into());
-                }
-                _ => {}
             }
+            Event::Readable { id } => self.read_file(id)?,
+            Event::Writable { id } => self.write_file(id)?,
+            Event::Finished { .. } => self.is_done = true,
+            // The receiver wants no more, and learns how much there was.
+            Event::Stopped { id, error_code } => {
+                self.host.state.send_stream(id).reset(error_code)?;
+                self.host.send_pending()?;
+                self.host.close()?;
+                return Err("the receiver wants no more".into());
+            }
+            _ => {}
         }
         Ok(())
+    }
+
+    /// The sender is done when all is acknowledged.
+    fn is_done(&self) -> bool {
+        self.is_done
     }
 }
 
@@ -100,26 +114,13 @@ fn main() -> Result<()> {
         (Some("receive"), Some(port), Some(file)) => (Side::Server, port, File::create(file)?),
         _ => return Err("usage: file-over-udp send|receive PORT FILE [LOSS [SEED]]".into()),
     };
-    let (loss, seed) = (word(4).unwrap_or("0"), word(5).unwrap_or("1"));
     let mut end = Endpoint {
-        host: Host::new(side, &config(), port.parse()?, loss.parse()?, seed.parse()?)?,
+        host: Host::new(side, &config(), port, words.get(4..).unwrap_or(&[]))?,
         file,
         chunk: Vec::new(),
         is_done: false,
     };
-    if side.is_client() {
-        let id = end.host.state.open(Dir::Uni)?;
-        end.write_file(id.ok_or("the peer allows no stream")?)?;
-    }
-    // The sender is done when all is acknowledged, and closes.
-    while !(end.host.is_closed || side.is_client() && end.is_done) {
-        end.host.receive_packets()?;
-        end.handle_events()?;
-        end.host.send_pending()?;
-    }
-    if side.is_client() {
-        end.host.close()?;
-    }
+    run(&mut end)?;
     let Counts {
         packets,
         dropped,
