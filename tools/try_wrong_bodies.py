@@ -1,6 +1,10 @@
 #!/usr/bin/env python3
 """Tries the mutants of tools/wrong_bodies: the prover has to reject a crate with any of them in place.
 
+    tools/try_wrong_bodies.py quic_queue/begins_with_one_kept_back    one mutant
+    tools/try_wrong_bodies.py quic_queue                              those of a crate
+    tools/try_wrong_bodies.py                                         all
+
 The edits of a crate are put into a copy of the repository, in a temporary folder, and `rt must-fail` tries them there, some
 at a time, with a copy for each thread. The results of checks below `out` are copied too, so a run after CI or a check does not
 prove the crates below again. Prints a line for each edit, and how many were rejected. The status is 0 only if all were.
@@ -45,6 +49,20 @@ def edits_of(crate):
     return sorted(name[: -len(".edit")] for name in os.listdir(folder) if name.endswith(".edit"))
 
 
+def named(words):
+    """The edits that words name, by their crates: each word is a crate, or a crate and one of its edits. No word names all.
+    Raises LookupError for one that is not there."""
+    found = {}
+    for word in words or crates_with_bodies():
+        crate, _, edit = word.partition("/")
+        if crate not in crates_with_bodies():
+            raise LookupError(f"there is no folder {crate} in tools/wrong_bodies")
+        if edit and edit not in edits_of(crate):
+            raise LookupError(f"there is no file {word}.edit in tools/wrong_bodies")
+        found.setdefault(crate, set()).update([edit] if edit else edits_of(crate))
+    return {crate: sorted(edits) for crate, edits in found.items()}
+
+
 def why_not_applicable(crate, edit):
     """Why an edit cannot be applied, or None."""
     with open(os.path.join(BODIES, crate, f"{edit}.edit"), encoding="utf-8") as it:
@@ -66,17 +84,16 @@ def why_not_applicable(crate, edit):
     return None if pairs else "it has no 'old:' line"
 
 
-def look(crates):
+def look(edits):
     """Prints which edits cannot be applied, and returns the status."""
     bad = 0
-    for crate in crates:
-        for edit in edits_of(crate):
+    for crate, names in edits.items():
+        for edit in names:
             why = why_not_applicable(crate, edit)
             if why:
                 bad += 1
                 print(f"{crate}/{edit}: {why}")
-    total = sum(len(edits_of(crate)) for crate in crates)
-    print(f"{total} edits, of which {bad} cannot be put in place")
+    print(f"{sum(map(len, edits.values()))} edits, of which {bad} cannot be put in place")
     return 1 if bad else 0
 
 
@@ -135,17 +152,16 @@ def try_edits(crate, edits, copies):
     return lines, refused, "" if len(found) == len(edits) else ran.stdout.rstrip()
 
 
-def try_all(crates, jobs):
-    """Tries the edits of some crates, `jobs` calls of rt at a time. Prints a line for each edit, and returns how many were refused."""
+def try_all(edits, jobs):
+    """Tries the edits of some crates, by their names, `jobs` calls of rt at a time. Prints a line for each edit, and returns how many were refused."""
     total = 0
     with tempfile.TemporaryDirectory(prefix="wrong-bodies-") as folder:
         copies = Copies(folder)
         with concurrent.futures.ThreadPoolExecutor(jobs) as pool:
             asked = []
-            for crate in sorted(crates, key=lambda name: -len(edits_of(name))):
-                edits = edits_of(crate)
-                for at in range(0, len(edits), IN_A_ROW):
-                    asked.append(pool.submit(try_edits, crate, edits[at : at + IN_A_ROW], copies))
+            for crate, names in sorted(edits.items(), key=lambda it: -len(it[1])):
+                for at in range(0, len(names), IN_A_ROW):
+                    asked.append(pool.submit(try_edits, crate, names[at : at + IN_A_ROW], copies))
             for done in concurrent.futures.as_completed(asked):
                 lines, refused, wrong = done.result()
                 print("\n".join(lines), flush=True)
@@ -357,18 +373,17 @@ def try_together(paths_of, jobs):
 
 def main():
     parser = argparse.ArgumentParser(description=__doc__.splitlines()[0])
-    parser.add_argument("crates", metavar="CRATE", nargs="*", help="a crate of tools/wrong_bodies; without one, all")
+    parser.add_argument("names", metavar="CRATE[/NAME]", nargs="*", help="a crate of tools/wrong_bodies, or one of its edits; without one, all")
     parser.add_argument("--jobs", type=int, metavar="N", help="the most processors that are used; without it, all")
     parser.add_argument("--list", action="store_true", help="only say which edits cannot be put in place, and prove nothing")
     parser.add_argument("--together", action="store_true", help="several in one check, over what rt ci proved in this folder")
     asked = parser.parse_args()
-    there = crates_with_bodies()
-    crates = asked.crates or there
-    for crate in crates:
-        if crate not in there:
-            parser.error(f"there is no folder {crate} in tools/wrong_bodies")
+    try:
+        edits = named(asked.names)
+    except LookupError as wrong:
+        parser.error(wrong.args[0])
     if asked.list:
-        return look(crates)
+        return look(edits)
     if shutil.which("rt") is None:
         print("rt is not there: the Rattle kit is needed", file=sys.stderr)
         return 2
@@ -381,10 +396,10 @@ def main():
         # rt uses the processors that it is given
         os.sched_setaffinity(0, sorted(os.sched_getaffinity(0))[:jobs])
     if asked.together:
-        refused = try_together({crate: [os.path.join(BODIES, crate, f"{it}.edit") for it in edits_of(crate)] for crate in crates}, jobs)
+        refused = try_together({crate: [os.path.join(BODIES, crate, f"{it}.edit") for it in names] for crate, names in edits.items()}, jobs)
     else:
-        refused = try_all(crates, jobs)
-    total = sum(len(edits_of(crate)) for crate in crates)
+        refused = try_all(edits, jobs)
+    total = sum(map(len, edits.values()))
     print(f"{total} mutants: {refused} rejected, {total - refused} not")
     return 0 if refused == total else 1
 
